@@ -7,7 +7,7 @@
 
 mod laws;
 
-pub use laws::a_record_that_is_passed_over_leaves_nothing;
-pub use laws::a_while_is_a_test_and_then_the_while_again;
-pub use laws::no_more_records_are_passed_over;
-pub use laws::what_each_write_keeps_a_load_keeps;
+pub use laws::{
+    a_record_that_is_passed_over_leaves_nothing, a_while_is_a_test_and_then_the_while_again,
+    no_more_records_are_passed_over, what_each_write_keeps_a_load_keeps,
+};

@@ -1,11 +1,11 @@
 -- A load changes its progress and its writes step by step: what holds along each step holds along the whole.
-use Rattle.std.proofs.Common.{◌≡◌, ℕ, zero, suc, ◌+◌, Bool, true, false, List, [], ◌∷◌, map, Option, None, Some, Result, Ok, Err, refl, sym, subst, slice_set, length, nat_lt, ◌&&◌, if◌then◌else◌}
+use Rattle.std.proofs.Common.{◌≡◌, ℕ, zero, suc, ◌+◌, Bool, true, false, List, [], ◌∷◌, map, Some, Result, Ok, Err, refl, sym, subst, slice_set, length, nat_lt, ◌&&◌, if◌then◌else◌}
 use Rattle.cube_fixed.specs.declared.value.Value.{Value}
 use Rattle.cube_fixed.specs.Arithmetic.{sum_of}
 use Rattle.script_bound.specs.declared.term.Term.{Term}
 use Rattle.script_bound.specs.declared.script.BoundScript.{BoundScript}
 use Rattle.script_bound.specs.declared.statement.Case.{Case}
-use Rattle.script_bound.specs.declared.statement.Case.TheFolds.{fold-roll-Case, fold-roll-Statement, ind-Case, ind-Statement, map-Case, map-Statement}
+use Rattle.script_bound.specs.declared.statement.Case.TheFolds.{fold-roll-Case, fold-roll-Statement, ind-Statement, map-Case, map-Statement}
 use Rattle.script_bound.specs.declared.statement.Case.TheOpen.{Case-F, Statement-F}
 use Rattle.script_bound.specs.declared.statement.Case.TheViews.{roll-Case, roll-Statement}
 use Rattle.script_bound.specs.declared.statement.Statement.{Statement}
@@ -19,7 +19,7 @@ use Rattle.script_run.specs.declared.ending.Ending.{Ending}
 use Rattle.script_run.specs.declared.ending.Ending.TheVariants.{Next, Skipped, Broken, Stopped}
 use Rattle.script_run.specs.declared.execution_place.ExecutionPlace.{ExecutionPlace}
 use Rattle.script_run.specs.Setting.{Setting, Progress}
-use Rattle.script_run.specs.Meaning.{Outcome, Ended, Doing, Deed, CaseDeed, Begun, Begins, then_do, begun_with, begin, once, place_of, executed, scene_of, kept_in, assign, given, as_kept, arguments, with_write, put_arguments, increment_arguments, zeroing_arguments, wrote, put, increment, zero_out, end_with, block, where_holds, choose, turns, case_step, statement_step, deed_of, case_deed, block_of}
+use Rattle.script_run.specs.Meaning.{Outcome, Ended, Doing, Deed, CaseDeed, then_do, begun_with, begin, once, place_of, executed, scene_of, kept_in, assign, given, as_kept, arguments, with_write, put_arguments, increment_arguments, zeroing_arguments, wrote, put, increment, zero_out, end_with, block, where_holds, choose, turns, case_step, statement_step, deed_of, case_deed, block_of}
 use Rattle.script_run.specs.Load.{setting, is_of_record, passed_over, tried, next_record, records, in_the_end, sections}
 
 -- What holds between a progress with its writes and a later one: of the same, from step to step, and over each step,

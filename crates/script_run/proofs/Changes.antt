@@ -1,10 +1,9 @@
 -- What the variables held at the mark, while some of them are set.
-use Rattle.std.proofs.Common.{◌≡◌, ◌≢◌, ℕ, ◌<◌, Bool, true, false, ◌||◌, cond, eqb, ltb, List, [], ◌∷◌, ◌++◌, length, Option, None, Some, get_or, set, replicate, refl, ap, sym, ◌∙◌, subst, arith, All}
-use Rattle.std.specs.List.{list_any}
+use Rattle.std.proofs.Common.{◌≡◌, ◌≢◌, ℕ, ◌<◌, Bool, true, false, ◌||◌, cond, eqb, List, [], ◌∷◌, ◌++◌, length, Option, None, Some, get_or, set, refl, ap, sym, ◌∙◌, subst, All}
 use Rattle.std.proofs.Math.ListN.{length-set}
-use Rattle.std.proofs.lemmas.Bool.{eqb-true, eqb-false, ltb-true, ltb-false}
-use Rattle.std.proofs.lemmas.List.{get_or-set_same, get_or-set_other, get_or-replicate, get_or_past, length-replicate, set-set, set_comm, set-get_or}
-use Rattle.std.proofs.lemmas.List.Elements.{All-nil, All-pop, All-push}
+use Rattle.std.proofs.lemmas.Bool.{eqb-true, eqb-false}
+use Rattle.std.proofs.lemmas.List.{get_or-set_same, get_or-set_other, set-set, set_comm, set-get_or}
+use Rattle.std.proofs.lemmas.List.Elements.{All-pop, All-push}
 use Rattle.std.proofs.lemmas.List.Folds.{list_any-append}
 use Rattle.script_values.specs.declared.kept.Kept.{Kept}
 use Rattle.script_run.specs.Inside.Running.{before_changes, is_changed, AreFlagged}
@@ -133,17 +132,3 @@ flagged-kept changes flags place before there is = by (get_or flags place false)
     by : (b : Bool) → get_or flags place false ≡ b → AreFlagged (cond b changes (changes ++ (place, before) ∷ [])) (set flags place true)
     by true on = flagged-again changes flags place on is
     by false on = flagged-listed changes flags place before there is
-
--- before any change no flag is set
-none_set : (n place : ℕ) → get_or (replicate n false) place false ≡ false
-none_set n place = by (ltb place n) refl
-  where
-    by : (b : Bool) → ltb place n ≡ b → get_or (replicate n false) place false ≡ false
-    by true less = get_or-replicate n place false false (ltb-true place n less)
-    by false more = get_or_past (replicate n false) place false (omega (arith, length-replicate n false, ltb-false place n more))
-
-pub flagged-none : (n : ℕ) → AreFlagged [] (replicate n false)
-flagged-none n = record {
-  within = All-nil (λ (change : ℕ × Option Kept). change.0 < length (replicate n false));
-  listed = λ place on. let none = none_set n place in absurd (cc (on, none));
-}

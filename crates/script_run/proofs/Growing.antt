@@ -1,11 +1,11 @@
 -- The writes of a load only grow while its statements run.
-use Rattle.std.proofs.Common.{◌≡◌, ℕ, pos, List, [], ◌∷◌, ◌++◌, length, take, Option, None, Some, Result, Ok, Err, refl, sym, ap, ◌∙◌, subst}
+use Rattle.std.proofs.Common.{◌≡◌, ℕ, pos, List, [], ◌∷◌, ◌++◌, length, take, Option, None, Some, Ok, refl, sym, ap, ◌∙◌, subst}
 use Rattle.std.proofs.lemmas.List.{append-nil, append_assoc, take_at}
 use Rattle.cube_fixed.specs.declared.value.Value.{Value}
 use Rattle.cube_fixed.specs.declared.value.Value.TheVariants.{Num, Over}
 use Rattle.script_bound.specs.declared.statement.Statement.{Statement}
 use Rattle.script_values.specs.declared.load_reason.LoadReason.{LoadReason}
-use Rattle.script_values.specs.Cells.{Store, Write, unless, unless_refused, with_number, with_value, with_cell, writing, with_zeros, zeroed_at, zeroing}
+use Rattle.script_values.specs.Cells.{Store, Write, unless, unless_refused, with_value, with_cell, with_zeros, zeroed_at}
 use Rattle.script_run.specs.declared.ending.Ending.{Ending}
 use Rattle.script_run.specs.Setting.{Setting, Progress}
 use Rattle.script_run.specs.Meaning.{Outcome, Ended, block_of}

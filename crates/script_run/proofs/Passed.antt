@@ -1,9 +1,9 @@
 -- Which records are passed over.
-use Rattle.std.proofs.Common.{◌≡◌, ◌<◌, ◌≤◌, ◌+◌, ℕ, Bool, true, false, ◌&&◌, cond, ltb, List, [], ◌∷◌, ◌++◌, length, Option, refl, ap, sym, ◌∙◌, arith}
-use Rattle.std.proofs.lemmas.Bool.{lt-ltb, le-ltb}
+use Rattle.std.proofs.Common.{◌≡◌, ◌+◌, ℕ, Bool, true, ◌&&◌, cond, ltb, List, [], ◌∷◌, ◌++◌, length, Option, ap, sym, ◌∙◌, arith}
+use Rattle.std.proofs.lemmas.Bool.{lt-ltb}
 use Rattle.script_values.specs.declared.load_reason.LoadReason.{LoadReason}
 use Rattle.script_values.specs.Cells.{Write}
-use Rattle.script_run.specs.declared.ending.Ending.TheVariants.{Next, Skipped, Broken, Stopped}
+use Rattle.script_run.specs.declared.ending.Ending.TheVariants.{Next, Stopped}
 use Rattle.script_values.specs.declared.kept.Kept.{Kept}
 use Rattle.script_run.specs.declared.execution_place.ExecutionPlace.{ExecutionPlace}
 use Rattle.script_run.specs.declared.reject.Reject.{Reject}
@@ -15,39 +15,12 @@ use Rattle.script_run.specs.Load.{is_of_record, passed_over, tried}
 abbrev stopped_if : Bool → Bool → LoadReason → Progress → List Write → Progress → List Write → Outcome
 stopped_if may few reason p w q u = cond (may && few) (Ended Next (passed_over reason p q) w) (Ended (Stopped reason) q u)
 
--- where none may be passed over any more
-pub tried_none : (most : ℕ) (p : Progress) (w : List Write) (o : Outcome) → most ≤ length p.rejects → o ≡ tried most p w o
-tried_none most p w (Ended Next q u) none = refl
-tried_none most p w (Ended Skipped q u) none = refl
-tried_none most p w (Ended Broken q u) none = refl
-tried_none most p w (Ended (Stopped reason) q u) none = by (is_of_record reason) (ltb (length p.rejects) most) (le-ltb (length p.rejects) most none)
-  where
-    by : (may few : Bool) → few ≡ false → Ended (Stopped reason) q u ≡ stopped_if may few reason p w q u
-    by true true is = absurd (cc is)
-    by true false is = refl
-    by false few is = refl
-
--- where one more may be passed over it doesn't matter how many
-pub tried_more : (most : ℕ) (p : Progress) (w : List Write) (o : Outcome) → length p.rejects < most
-    → tried (length p.rejects + 1) p w o ≡ tried most p w o
-tried_more most p w (Ended Next q u) few = refl
-tried_more most p w (Ended Skipped q u) few = refl
-tried_more most p w (Ended Broken q u) few = refl
-tried_more most p w (Ended (Stopped reason) q u) few =
-    let n = length p.rejects in
-    ap (λ (b : Bool). stopped_if (is_of_record reason) b reason p w q u) (lt-ltb n (n + 1) (omega arith) ∙ sym (lt-ltb n most few))
-
 -- a reason that lies in the record
 pub tried_passes : (reason : LoadReason) (p q : Progress) (w u : List Write) → is_of_record reason ≡ true
     → Ended Next (passed_over reason p q) w ≡ tried (length p.rejects + 1) p w (Ended (Stopped reason) q u)
 tried_passes reason p q w u is =
     let n = length p.rejects in
     sym (ap (λ (b : Bool). stopped_if b (ltb n (n + 1)) reason p w q u) is ∙ ap (λ (b : Bool). stopped_if true b reason p w q u) (lt-ltb n (n + 1) (omega arith)))
-
--- and another one
-pub tried_stops : (most : ℕ) (reason : LoadReason) (p q : Progress) (w u : List Write) → is_of_record reason ≡ false
-    → Ended (Stopped reason) q u ≡ tried most p w (Ended (Stopped reason) q u)
-tried_stops most reason p q w u is = sym (ap (λ (b : Bool). stopped_if b (ltb (length p.rejects) most) reason p w q u) is)
 
 progress_of : List (Option Kept) → ℕ → ExecutionPlace → List Reject → Progress
 progress_of variables left last rejects = record { variables = variables; left = left; last = last; rejects = rejects }

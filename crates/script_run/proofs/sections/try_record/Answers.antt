@@ -1,4 +1,4 @@
-use Rattle.std.proofs.Common.{◌≡◌, ◌+◌, ◌∙◌, ℕ, List, length, take, None, true, sym, ap}
+use Rattle.std.proofs.Common.{◌≡◌, ◌+◌, ◌∙◌, ℕ, List, length, take, true, sym, ap}
 use Rattle.script_values.specs.Cells.{Store, Write}
 use Rattle.script_run.specs.declared.ending.Ending.TheVariants.{Next, Stopped}
 use Rattle.script_run.specs.Setting.{Progress}
