@@ -5,7 +5,7 @@ use cube_fixed::{Value, print};
 use lists::ListOf;
 use script_bind::bind;
 use script_reader::parse;
-use script_run::{BoundScript, Ran, run};
+use script_run::{BoundScript, Ran, Reject, run};
 use std::alloc::{AllocError, Global};
 use user_text::rows;
 
@@ -50,11 +50,11 @@ fn answer_script(
         script,
         records.behind(0),
         scene.decimal,
+        scene.rejects,
         &scene.params,
         &mut cells,
     )?;
-    let line = ran_text(alloc, &ran)?;
-    write_answer(out, line.as_bytes())?;
+    write_ran(alloc, &ran, out)?;
     for (cell, number) in &cells.writes {
         let line = write_text(alloc, &cells, *cell, Value::Num(*number))?;
         write_answer(out, &line)?;
@@ -62,18 +62,38 @@ fn answer_script(
     Ok(())
 }
 
-fn ran_text(alloc: Global, ran: &Ran) -> Result<String, AllocError> {
+fn write_ran(alloc: Global, ran: &Ran, out: &mut Vec<u8>) -> Result<(), AllocError> {
     match ran {
-        Ran::Done => String::from_str(alloc, "done"),
+        Ran::Done(rejects) => {
+            write_answer(out, b"done")?;
+            for reject in rejects.as_slice() {
+                write_reject(alloc, reject, out)?;
+            }
+            Ok(())
+        }
         Ran::Rejected {
             section,
             row,
             statement,
             reason,
-        } => format!(in alloc;
-            "rejected {section:?} record {row} statement {statement} {reason:?}"
-        ),
+        } => {
+            let line = format!(in alloc;
+                "rejected {section:?} record {row} statement {statement} {reason:?}"
+            )?;
+            write_answer(out, line.as_bytes())
+        }
     }
+}
+
+/// A record that was passed over.
+fn write_reject(alloc: Global, reject: &Reject, out: &mut Vec<u8>) -> Result<(), AllocError> {
+    let Reject {
+        row,
+        statement,
+        reason,
+    } = reject;
+    let line = format!(in alloc; "passed over record {row} statement {statement} {reason:?}")?;
+    write_answer(out, line.as_bytes())
 }
 
 /// A write: the names of the cell, and the number.

@@ -14,10 +14,11 @@
 //! row                                  a record without columns
 //! separator ;                          the byte between columns of the rows
 //! decimal ,                            the byte between units and decimals of their numbers
+//! rejects 2                            how many records may be passed over
 //! |Data: CellPutN(V3, 'Plan', V1, V2); a line of the script
 //! ```
 //!
-//! What is printed of a case is how the load ends and what it wrote.
+//! What is printed of a case is how the load ends, the records that it passed over, and what it wrote.
 #![tactic(auto)]
 
 mod cases;

@@ -1,4 +1,4 @@
-ghost use Rattle.std.specs.Prelude.{◌≡◌, position, slice_get, bytes_eq, IfOk, OnOk};
+ghost use Rattle.std.specs.Prelude.{◌≡◌, length, position, slice_get, bytes_eq, None, IfOk, OnOk};
 ghost use Rattle.script_values.specs.Cells.{refusal, writes_after};
 ghost use Rattle.script_cases.specs.Memory as memory;
 
@@ -22,6 +22,7 @@ pub struct MemoryCells {
     pub stored: u64,
     /// How many writes may be fed.
     pub fed: u64,
+    pub ghost within: { memory.full_with stored fed (length writes.items) ≡ None } by { Prim.hlevel props },
 }
 
 fn last_value(cell: u64, value: Value, writes: &[(u64, Money)]) -> Value

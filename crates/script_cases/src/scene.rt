@@ -20,6 +20,8 @@ pub struct Scene {
     pub separator: u8,
     /// The byte between units and decimals of the numbers in the file.
     pub decimal: u8,
+    /// How many records may be passed over.
+    pub rejects: u32,
     pub script: Vec<u8>,
 }
 
@@ -72,6 +74,7 @@ impl Scene {
             file: Vec::new(alloc),
             separator: b',',
             decimal: b'.',
+            rejects: 0,
             script: Vec::new(alloc),
         }
     }
@@ -94,6 +97,10 @@ impl Scene {
             }
             "decimal" => {
                 self.decimal = first_byte(rest);
+                Ok(true)
+            }
+            "rejects" => {
+                self.rejects = rest.parse::<u32>().unwrap_or(0);
                 Ok(true)
             }
             "stored" => {

@@ -7,7 +7,7 @@ use Rattle.script_values.specs.Cells.{Store, Write, writing, zeroing}
 use Rattle.script_run.specs.Setting.{Progress}
 use Rattle.script_run.specs.Meaning.{Outcome, Ended}
 use Rattle.script_run.specs.Load.{load, start, writes_of}
-use Rattle.script_laws.proofs.Chains.{IsChain, Reaches, sections_steady}
+use Rattle.script_run.proofs.Chains.{IsChain, Reaches, sections_steady}
 
 module _ (store : Store) (P : List Write → Type 0)
     (kept : (before after : List Write) (cube : List ℕ) (elements : List (List ℕ)) (value : Value) → P before → writing store before cube elements value ≡ Ok after → P after)
@@ -28,6 +28,7 @@ module _ (store : Store) (P : List Write → Type 0)
   ends : (p : Progress) (w : List Write) (o : Outcome) → Reaches store Along chain p w o → P w → P (writes_of o)
   ends p w (Ended ending q v) along h = along h
 
-  pub load_keeps : (script : BoundScript) (params : List (List ℕ × ParamText)) (decimal : ℕ) (rows : List (List (List ℕ))) (writes : List Write) → P writes → P (writes_of (load script params decimal rows store writes))
-  load_keeps script params decimal rows writes h =
-      ends (start script params) writes (load script params decimal rows store writes) (sections_steady store Along chain script decimal rows (start script params) writes) h
+  pub load_keeps : (script : BoundScript) (params : List (List ℕ × ParamText)) (decimal most : ℕ) (rows : List (List (List ℕ))) (writes : List Write) → P writes → P (writes_of (load script params decimal most rows store writes))
+  load_keeps script params decimal most rows writes h =
+      ends (start script params) writes (load script params decimal most rows store writes)
+      (sections_steady store Along chain most (λ p q w u reason few along h. h) script decimal rows (start script params) writes) h

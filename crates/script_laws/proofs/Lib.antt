@@ -1,3 +1,3 @@
-pub mod Chains
 pub mod Turns
 pub mod Kept
+pub mod Rejects

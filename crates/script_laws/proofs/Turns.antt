@@ -14,7 +14,7 @@ use Rattle.script_run.specs.declared.execution_place.ExecutionPlace.{ExecutionPl
 use Rattle.script_run.specs.Setting.{Setting, Progress}
 use Rattle.script_run.specs.Meaning.{Outcome, Ended, Doing, Deed, CaseDeed, begun_with, once, place_of, given, where_holds, then_do, end_with, turns, block_of, executed, case_step, statement_step, deed_of}
 use Rattle.script_laws.specs.Laws.{test_and_again}
-use Rattle.script_laws.proofs.Chains.{IsChain, Reaches, statements_steady}
+use Rattle.script_run.proofs.Chains.{IsChain, Reaches, statements_steady}
 
 abbrev Falls : Progress → List Write → Progress → List Write → Type 0
 Falls p w q v = q.left ≤ p.left
@@ -57,7 +57,7 @@ module _ (number : ℕ) (test : Term) (statements : List Statement) (store : Sto
   turning most p w = turns most number test (block_of statements) store here p w
 
   abbrev next : Progress → ℕ → Progress
-  next p left = record { variables = p.variables; left = left; last = place_of here number }
+  next p left = record { variables = p.variables; left = left; last = place_of here number; rejects = p.rejects }
 
   none_left : (most : ℕ) (p : Progress) (w : List Write) → p.left ≡ zero → turning most p w ≡ Ended (Stopped StepLimit) p w
   none_left zero p w is = refl

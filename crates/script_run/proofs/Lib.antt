@@ -1,2 +1,6 @@
 pub mod Begun
+pub mod Changes
+pub mod Chains
+pub mod Growing
+pub mod Passed
 pub mod Turns

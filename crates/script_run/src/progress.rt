@@ -1,5 +1,6 @@
-ghost use Rattle.std.specs.Prelude.{◌≡◌, ◌+◌, ◌≤◌, ◌∷◌, ◌++◌, [], Some, IsTrue, IfOk, OnOk, slice_set};
-ghost use Rattle.script_run.specs.Load.{passed_over};
+ghost use Rattle.std.specs.Prelude.{◌≡◌, ◌+◌, ◌<◌, ◌≤◌, ◌∷◌, ◌++◌, [], Some, IsTrue, IfOk, OnOk, OnErr, slice_set};
+ghost use Rattle.std.specs.Prelude.{false, true, if◌then◌else◌, length, slice_index_or};
+ghost use Rattle.script_run.specs.Inside.Running.{AreFlagged, before_changes};
 ghost use Rattle.script_run.specs.Meaning.{Begins, begin};
 
 use crate::execution_place::ExecutionPlace;
@@ -24,7 +25,8 @@ pub(crate) struct Run {
 }
 
 impl Model for Run {
-    ghost use Rattle.script_run.specs.Inside.Running.{Running, before_changes};
+    ghost use Rattle.std.specs.Prelude.{◌≡◌, length};
+    ghost use Rattle.script_run.specs.Inside.Running.{Running, AreFlagged, before_changes};
 
     ghost Value = { Running };
 
@@ -37,6 +39,9 @@ impl Model for Run {
       };
       held = before_changes run.changes.items run.variables.items;
     } };
+
+    ghost invariant = { λ run. (length run.is_changed.items ≡ length run.variables.items)
+        × AreFlagged run.changes.items run.is_changed.items };
 }
 
 impl Run {
@@ -52,8 +57,7 @@ impl Run {
         ensures { IfOk result (λ run. run.progress
             ≡ record { variables = variables.items; left = left; last = last; rejects = [] }) }
     {
-        let mut is_changed = Vec::new(alloc);
-        is_changed.resize(variables.len(), false)?;
+        let is_changed = vec![in alloc; false; variables.len()]?;
         Ok(Run {
             variables,
             changes: Vec::new(alloc),
@@ -125,10 +129,7 @@ impl Run {
     {
         if place < self.variables.len() {
             let before = self.variables[place].replace(value);
-            if !self.is_changed[place] {
-                self.is_changed[place] = true;
-                self.changes.push((place, before))?;
-            }
+            list_change(place, before, &mut self.changes, &mut self.is_changed)?;
         }
         Ok(())
     }
@@ -138,9 +139,7 @@ impl Run {
         ensures progress { self.new.progress ≡ self.old.progress }
         ensures held { self.new.held ≡ self.old.progress.variables }
     {
-        while let Some((place, _)) = self.changes.pop() {
-            self.is_changed[place] = false;
-        }
+        unlist(&mut self.changes, &mut self.is_changed);
     }
 
     /// Passes over a record that was begun with so many rejects and stopped for this reason: the variables hold again
@@ -152,14 +151,64 @@ impl Run {
         ensures rejects { let last = self.old.progress.last in OnOk result (self.new.progress.rejects
             ≡ self.old.progress.rejects ++ record { row = last.row; statement = last.statement; reason = reason } ∷ []) }
     {
-        while let Some((place, before)) = self.changes.pop() {
-            self.variables[place] = before;
-            self.is_changed[place] = false;
-        }
+        undo(&mut self.changes, &mut self.is_changed, &mut self.variables);
         self.rejects.push(Reject {
             row: self.last.row,
             statement: self.last.statement,
             reason,
-        })
+        })?;
+        Ok(())
+    }
+}
+
+/// Lists what a variable held, where it isn't among the changes.
+fn list_change(
+    place: usize,
+    before: Option<Kept>,
+    changes: &mut Vec<(usize, Option<Kept>)>,
+    is_changed: &mut Vec<bool>,
+) -> Result<(), AllocError>
+    requires { place < length is_changed.old.items }
+    ensures changes { OnOk result (changes.new.items ≡ (if slice_index_or is_changed.old.items place false
+        then changes.old.items else changes.old.items ++ (place, before) ∷ [])) }
+    ensures flags { OnOk result (is_changed.new.items ≡ slice_set is_changed.old.items place true) }
+    ensures unchanged { OnErr result
+        ((changes.new.items ≡ changes.old.items) × (is_changed.new.items ≡ is_changed.old.items)) }
+{
+    if !is_changed[place] {
+        changes.push((place, before))?;
+    }
+    is_changed[place] = true;
+    Ok(())
+}
+
+/// Takes all changes out of the list.
+fn unlist(changes: &mut Vec<(usize, Option<Kept>)>, is_changed: &mut Vec<bool>)
+    requires { AreFlagged changes.old.items is_changed.old.items }
+    ensures changes { changes.new.items ≡ [] }
+    ensures flags { AreFlagged [] is_changed.new.items }
+    ensures length { length is_changed.new.items ≡ length is_changed.old.items }
+{
+    'each: while let Some((place, _)) = changes.pop() {
+        is_changed[place] = false;
+    }
+}
+
+/// Undoes all changes, the last one first.
+fn undo(
+    changes: &mut Vec<(usize, Option<Kept>)>,
+    is_changed: &mut Vec<bool>,
+    variables: &mut Vec<Option<Kept>>,
+)
+    requires flags { AreFlagged changes.old.items is_changed.old.items }
+    requires whole { length is_changed.old.items ≡ length variables.old.items }
+    ensures variables { variables.new.items ≡ before_changes changes.old.items variables.old.items }
+    ensures changes { changes.new.items ≡ [] }
+    ensures flags { AreFlagged [] is_changed.new.items }
+    ensures whole { length is_changed.new.items ≡ length variables.new.items }
+{
+    'each: while let Some((place, before)) = changes.pop() {
+        variables[place] = before;
+        is_changed[place] = false;
     }
 }

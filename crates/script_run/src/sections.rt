@@ -1,4 +1,4 @@
-ghost use Rattle.std.specs.Prelude.{◌≡◌, ℕ, ◌+◌, ◌<◌, ◌≤◌, List, [], length, map, IfOk};
+ghost use Rattle.std.specs.Prelude.{◌≡◌, ◌+◌, List, [], length, IfOk};
 ghost use Rattle.script_tree.specs.declared.script.Section.TheVariants as sections_of;
 ghost use Rattle.script_run.specs.Meaning.{Ended, block_of, then_do};
 ghost use Rattle.script_run.specs.Load.{is_of_record, records, setting, sections, tried};
@@ -41,21 +41,23 @@ fn try_record<C: WorkCells>(
     run: &mut Run,
     cells: &mut C,
 ) -> Result<Ending, AllocError>
-    ensures ended { (most : ℕ) → length run.old.progress.rejects < most
-        → IfOk result (λ ending. Ended ending run.new.progress (C.writes cells.new)
-        ≡ tried most run.old.progress (C.writes cells.old)
+    ensures ended { IfOk result (λ ending. Ended ending run.new.progress (C.writes cells.new)
+        ≡ tried (length run.old.progress.rejects + 1) run.old.progress (C.writes cells.old)
         (block_of body.now (C.store cells.old) here.now run.old.progress (C.writes cells.old))) }
     ensures store { C.store cells.new ≡ C.store cells.old }
 {
     let count = cells.mark()?;
     run.mark();
     match run_block(alloc, body, here, run, cells)? {
+        Ending::Next => Ok(Ending::Next),
+        Ending::Skipped => Ok(Ending::Skipped),
+        Ending::Broken => Ok(Ending::Broken),
         Ending::Stopped(reason) if is_of_record(reason) => {
             cells.back(alloc, count)?;
             run.pass_over(reason)?;
             Ok(Ending::Next)
         }
-        ending => Ok(ending),
+        Ending::Stopped(reason) => Ok(Ending::Stopped(reason)),
     }
 }
 
@@ -136,7 +138,15 @@ fn run_records_after_prolog<C: WorkCells>(
     let here = Here::new(decimal, Section::Prolog, 0, &none);
     match run_block(alloc, script.prolog.as_slice(), &here, run, cells)? {
         Ending::Next => {
-            run_records(alloc, script.body.as_slice(), rows, decimal, most, run, cells)
+            run_records(
+                alloc,
+                script.body.as_slice(),
+                rows,
+                decimal,
+                most,
+                run,
+                cells,
+            )
         }
         Ending::Skipped => Ok(Ending::Skipped),
         Ending::Broken => Ok(Ending::Broken),

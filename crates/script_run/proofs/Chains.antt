@@ -1,11 +1,11 @@
 -- A load changes its progress and its writes step by step: what holds along each step holds along the whole.
-use Rattle.std.proofs.Common.{◌≡◌, ℕ, zero, suc, ◌+◌, Bool, true, false, List, [], ◌∷◌, map, Option, None, Some, Result, Ok, Err, refl, sym, subst, slice_set}
+use Rattle.std.proofs.Common.{◌≡◌, ℕ, zero, suc, ◌+◌, Bool, true, false, List, [], ◌∷◌, map, Some, Result, Ok, Err, refl, sym, subst, slice_set, length, nat_lt, ◌&&◌, if◌then◌else◌}
 use Rattle.cube_fixed.specs.declared.value.Value.{Value}
 use Rattle.cube_fixed.specs.Arithmetic.{sum_of}
 use Rattle.script_bound.specs.declared.term.Term.{Term}
 use Rattle.script_bound.specs.declared.script.BoundScript.{BoundScript}
 use Rattle.script_bound.specs.declared.statement.Case.{Case}
-use Rattle.script_bound.specs.declared.statement.Case.TheFolds.{fold-roll-Case, fold-roll-Statement, ind-Case, ind-Statement, map-Case, map-Statement}
+use Rattle.script_bound.specs.declared.statement.Case.TheFolds.{fold-roll-Case, fold-roll-Statement, ind-Statement, map-Case, map-Statement}
 use Rattle.script_bound.specs.declared.statement.Case.TheOpen.{Case-F, Statement-F}
 use Rattle.script_bound.specs.declared.statement.Case.TheViews.{roll-Case, roll-Statement}
 use Rattle.script_bound.specs.declared.statement.Statement.{Statement}
@@ -19,8 +19,8 @@ use Rattle.script_run.specs.declared.ending.Ending.{Ending}
 use Rattle.script_run.specs.declared.ending.Ending.TheVariants.{Next, Skipped, Broken, Stopped}
 use Rattle.script_run.specs.declared.execution_place.ExecutionPlace.{ExecutionPlace}
 use Rattle.script_run.specs.Setting.{Setting, Progress}
-use Rattle.script_run.specs.Meaning.{Outcome, Ended, Doing, Deed, CaseDeed, Begun, Begins, then_do, begun_with, begin, once, place_of, executed, scene_of, kept_in, assign, given, as_kept, arguments, with_write, put_arguments, increment_arguments, zeroing_arguments, wrote, put, increment, zero_out, end_with, block, where_holds, choose, turns, case_step, statement_step, deed_of, case_deed, block_of}
-use Rattle.script_run.specs.Load.{setting, next_record, records, in_the_end, sections, load, start}
+use Rattle.script_run.specs.Meaning.{Outcome, Ended, Doing, Deed, CaseDeed, then_do, begun_with, begin, once, place_of, executed, scene_of, kept_in, assign, given, as_kept, arguments, with_write, put_arguments, increment_arguments, zeroing_arguments, wrote, put, increment, zero_out, end_with, block, where_holds, choose, turns, case_step, statement_step, deed_of, case_deed, block_of}
+use Rattle.script_run.specs.Load.{setting, is_of_record, passed_over, tried, next_record, records, in_the_end, sections}
 
 -- What holds between a progress with its writes and a later one: of the same, from step to step, and over each step,
 -- which is an execution that begins, a variable that is set, a write that is allowed, or a cell that is zeroed out.
@@ -28,9 +28,9 @@ pub record IsChain (store : Store) (R : Progress → List Write → Progress →
   pub same : (p : Progress) (w : List Write) → R p w p w
   pub on : (p q r : Progress) (w v u : List Write) → R p w q v → R q v r u → R p w r u
   pub begins : (p : Progress) (w : List Write) (place : ExecutionPlace) (left : ℕ) → p.left ≡ suc left
-      → R p w (record { variables = p.variables; left = left; last = place }) w
+      → R p w (record { variables = p.variables; left = left; last = place; rejects = p.rejects }) w
   pub sets : (p : Progress) (w : List Write) (place : ℕ) (value : Kept)
-      → R p w (record { variables = slice_set p.variables place (Some value); left = p.left; last = p.last }) w
+      → R p w (record { variables = slice_set p.variables place (Some value); left = p.left; last = p.last; rejects = p.rejects }) w
   pub writes : (p : Progress) (w u : List Write) (cube : List ℕ) (elements : List (List ℕ)) (value : Value)
       → writing store w cube elements value ≡ Ok u → R p w p u
   pub zeros : (p : Progress) (w u : List Write) (cube : List ℕ) (elements : List (List ℕ)) → zeroing store w cube elements ≡ Ok u → R p w p u
@@ -72,7 +72,7 @@ module _ (store : Store) (R : Progress → List Write → Progress → List Writ
   begun_steady : (left : ℕ) (place : ExecutionPlace) (p : Progress) (w : List Write) (go : Doing) → p.left ≡ left → IsSteadyDoing go → Reaches p w (once (begun_with left place p) w go)
   begun_steady zero place p w go is next = chain.same p w
   begun_steady (suc left) place p w go is next =
-      let q : Progress = record { variables = p.variables; left = left; last = place } in
+      let q : Progress = record { variables = p.variables; left = left; last = place; rejects = p.rejects } in
       reach_on p q w w (go q w) (chain.begins p w place left is) (next q w)
 
   once_steady : (place : ExecutionPlace) (p : Progress) (w : List Write) (go : Doing) → IsSteadyDoing go → Reaches p w (once (begin place p) w go)
@@ -209,14 +209,30 @@ module _ (store : Store) (R : Progress → List Write → Progress → List Writ
   statements_steady (s ∷ statements) here p w =
       then_steady p w (deed_of s store here p w) (block_of statements store here) (statement_steady s here p w) (statements_steady statements here)
 
-  records_steady : (decimal : ℕ) (body : List Statement) (row : ℕ) (rows : List (List (List ℕ))) → IsSteadyDoing (records decimal (block_of body) store row rows)
-  records_steady decimal body row [] p w = chain.same p w
-  records_steady decimal body row (columns ∷ rows) p w =
-      record_steady p w (block_of body store (setting decimal Body row columns) p w) (records decimal (block_of body) store (row + 1) rows)
-      (statements_steady body (setting decimal Body row columns) p w) (records_steady decimal body (row + 1) rows)
+  -- where it also holds over a record that is passed over, if fewer than so many were
+  module _ (most : ℕ)
+      (passes : (p q : Progress) (w u : List Write) (reason : LoadReason) → nat_lt (length p.rejects) most ≡ true → R p w q u → R p w (passed_over reason p q) w) where
+    stopped_steady : (may few : Bool) (p q : Progress) (w u : List Write) (reason : LoadReason) → nat_lt (length p.rejects) most ≡ few → R p w q u
+        → Reaches p w (if may && few then Ended Next (passed_over reason p q) w else Ended (Stopped reason) q u)
+    stopped_steady true true p q w u reason is h = passes p q w u reason is h
+    stopped_steady true false p q w u reason is h = h
+    stopped_steady false few p q w u reason is h = h
 
-  pub sections_steady : (script : BoundScript) (decimal : ℕ) (rows : List (List (List ℕ))) → IsSteadyDoing (sections script store decimal rows)
-  sections_steady script decimal rows p w =
-      end_steady p w (then_do (block_of script.prolog store (setting decimal Prolog 0 []) p w) (records decimal (block_of script.body) store 1 rows)) (block_of script.epilog store (setting decimal Epilog 0 []))
-      (then_steady p w (block_of script.prolog store (setting decimal Prolog 0 []) p w) (records decimal (block_of script.body) store 1 rows) (statements_steady script.prolog (setting decimal Prolog 0 []) p w) (records_steady decimal script.body 1 rows))
-      (statements_steady script.epilog (setting decimal Epilog 0 []))
+    tried_steady : (p : Progress) (w : List Write) (o : Outcome) → Reaches p w o → Reaches p w (tried most p w o)
+    tried_steady p w (Ended Next q u) h = h
+    tried_steady p w (Ended Skipped q u) h = h
+    tried_steady p w (Ended Broken q u) h = h
+    tried_steady p w (Ended (Stopped reason) q u) h = stopped_steady (is_of_record reason) (nat_lt (length p.rejects) most) p q w u reason refl h
+
+    records_steady : (decimal : ℕ) (body : List Statement) (row : ℕ) (rows : List (List (List ℕ))) → IsSteadyDoing (records decimal most (block_of body) store row rows)
+    records_steady decimal body row [] p w = chain.same p w
+    records_steady decimal body row (columns ∷ rows) p w =
+        let o = block_of body store (setting decimal Body row columns) p w in
+        record_steady p w (tried most p w o) (records decimal most (block_of body) store (row + 1) rows)
+        (tried_steady p w o (statements_steady body (setting decimal Body row columns) p w)) (records_steady decimal body (row + 1) rows)
+
+    pub sections_steady : (script : BoundScript) (decimal : ℕ) (rows : List (List (List ℕ))) → IsSteadyDoing (sections script store decimal most rows)
+    sections_steady script decimal rows p w =
+        end_steady p w (then_do (block_of script.prolog store (setting decimal Prolog 0 []) p w) (records decimal most (block_of script.body) store 1 rows)) (block_of script.epilog store (setting decimal Epilog 0 []))
+        (then_steady p w (block_of script.prolog store (setting decimal Prolog 0 []) p w) (records decimal most (block_of script.body) store 1 rows) (statements_steady script.prolog (setting decimal Prolog 0 []) p w) (records_steady decimal script.body 1 rows))
+        (statements_steady script.epilog (setting decimal Epilog 0 []))
