@@ -43,7 +43,7 @@ user_files commands = filter_map (λ command. file_of command.body) commands
 abbrev pub record_files : List (List UserCommand) → List (List ℕ)
 record_files users = flat_map user_files users
 
--- the records of the file of this name, with this byte between columns, behind those that are passed over; without a
+-- the records of the file of this name, with this byte between columns, behind those that are skipped; without a
 -- file there are none
 abbrev pub records_of : List Source → Option (List ℕ) → ℕ → ℕ → Option (List (List (List ℕ)))
 records_of sources None separator skip = Some []

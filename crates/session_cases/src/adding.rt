@@ -28,8 +28,8 @@ pub enum Order {
 /// The reply to a user.
 #[derive(Clone, Copy, Debug)]
 pub enum Answer {
-    /// The number was added, and this is the total.
-    Added(u64),
+    /// The number was added, which makes this total.
+    Added { number: u64, total: u64 },
     /// The number was not added.
     Refused(u64),
     /// The total.
@@ -65,8 +65,8 @@ impl World for Adding {
 
     ghost effect = { λ total order. elim order [
       | Add n ↦ (if nat_le n 100 && nat_le total 1000000
-          then Commit n (Added (total + n)) else Rejected (Refused n))
-      | Give n ↦ (if nat_le (total + n) 1000 then Commit n (Added (total + n)) else Rejected (Refused n))
+          then Commit n (Added n (total + n)) else Rejected (Refused n))
+      | Give n ↦ (if nat_le (total + n) 1000 then Commit n (Added n (total + n)) else Rejected (Refused n))
       | Ask ↦ Read (Total total)
     ] };
 
@@ -85,11 +85,9 @@ impl World for Adding {
     ) -> Result<Effect<u64, Answer>, AllocError> {
         Ok(match command {
             Order::Add(number) if *number <= MAX_ADDED && *state <= FULL => {
-                Effect::Commit(*number, Answer::Added(*state + *number))
+                added_to(*state, *number)
             }
-            Order::Give(number) if has_room(*state, *number) => {
-                Effect::Commit(*number, Answer::Added(*state + *number))
-            }
+            Order::Give(number) if has_room(*state, *number) => added_to(*state, *number),
             Order::Add(number) | Order::Give(number) => {
                 Effect::Rejected(Answer::Refused(*number))
             }
@@ -105,7 +103,8 @@ impl World for Adding {
 impl Layered for Adding {
     ghost use Rattle.std.specs.Prelude.{◌+◌, nat_le, if◌then◌else◌, None, Some};
     ghost use Rattle.session_cases.specs.declared.adding.Order.TheVariants.{Give};
-    ghost use Rattle.session_cases.specs.declared.adding.Answer.TheVariants.{Kept, NoRoom, Noted};
+    ghost use Rattle.session_cases.specs.declared.adding.Answer.TheVariants.{Added, Refused, Total, Kept};
+    ghost use Rattle.session_cases.specs.declared.adding.Answer.TheVariants.{NoRoom, Noted};
 
     /// How much is kept.
     type Layer = u64;
@@ -116,7 +115,14 @@ impl Layered for Adding {
       fixed = λ number. Give number;
       unfit = λ total layer. if nat_le (total + layer) 1000 then None else Some NoRoom;
       note = λ note. Noted note;
-      kept = λ number. Kept number;
+      kept = λ reply. elim reply [
+        | Added n total ↦ Kept n
+        | Refused n ↦ Refused n
+        | Total total ↦ Total total
+        | Kept n ↦ Kept n
+        | NoRoom ↦ NoRoom
+        | Noted note ↦ Noted note
+      ];
     } };
 
     ghost kept_writes = { λ layer. layer };
@@ -154,12 +160,26 @@ impl Layered for Adding {
         Ok(Answer::Noted(note))
     }
 
-    fn kept(_alloc: Global, writes: &u64) -> Result<Answer, AllocError> {
-        Ok(Answer::Kept(*writes))
+    fn kept(_alloc: Global, reply: Answer) -> Result<Answer, AllocError> {
+        Ok(match reply {
+            Answer::Added { number, .. } => Answer::Kept(number),
+            other => other,
+        })
     }
 }
 
-ghost use Rattle.std.specs.Prelude.{◌≡◌, ◌+◌, nat_le, IfOk};
+ghost use Rattle.std.specs.Prelude.{◌≡◌, ◌+◌, ◌<◌, ◌^◌, nat_le, IfOk};
+ghost use Rattle.history.specs.declared.effect.Effect.TheVariants.{Commit};
+ghost use Rattle.session_cases.specs.declared.adding.Answer.TheVariants.{Added};
+
+// The number is added to the total.
+fn added_to(total: u64, number: u64) -> Effect<u64, Answer>
+    requires fits { total + number < 2 ^ 64 }
+    ensures { result ≡ Commit number (Added number (total + number)) }
+{
+    let total = total + number;
+    Effect::Commit(number, Answer::Added { number, total })
+}
 
 // Whether a sandbox that keeps this number may be added to the total.
 fn has_room(total: u64, number: u64) -> bool

@@ -46,7 +46,7 @@ pub fn ending(alloc: Global, served: &Served<Adding>) -> Result<String, AllocErr
         let told = told.as_slice();
         let added = told
             .iter()
-            .filter(|told| matches!(told.reply, Answer::Added(_)))
+            .filter(|told| matches!(told.reply, Answer::Added { .. }))
             .count();
         let refused = told
             .iter()
@@ -73,7 +73,7 @@ fn are_right(log: &[Entry<u64>], told: &[Told<Answer>]) -> bool {
     for one in told {
         let before = total_at(log, one.place);
         let right = match one.reply {
-            Answer::Added(total) => total == total_at(log, one.place.saturating_add(1)),
+            Answer::Added { total, .. } => total == total_at(log, one.place.saturating_add(1)),
             Answer::Total(total) => total == before.saturating_add(kept),
             _ => true,
         };
@@ -82,7 +82,7 @@ fn are_right(log: &[Entry<u64>], told: &[Told<Answer>]) -> bool {
         }
         kept = match one.reply {
             Answer::Kept(number) => kept.saturating_add(number),
-            Answer::Added(_) | Answer::Noted(Note::Discarded) => 0,
+            Answer::Added { .. } | Answer::Noted(Note::Discarded) => 0,
             _ => kept,
         };
     }
@@ -123,7 +123,7 @@ pub fn replies(alloc: Global, served: &Served<Adding>) -> Result<String, AllocEr
 
 fn write_answer(text: &mut String, answer: &Answer) -> Result<(), AllocError> {
     match answer {
-        Answer::Added(total) => writeln!(text, "added {total}")?,
+        Answer::Added { total, .. } => writeln!(text, "added {total}")?,
         Answer::Refused(number) => writeln!(text, "refused {number}")?,
         Answer::Total(total) => writeln!(text, "total {total}")?,
         Answer::Kept(number) => writeln!(text, "kept {number}")?,

@@ -58,7 +58,10 @@ fn add_load(lines: &mut Lines, line: u32, load: &LoadText) {
         Some(file) => {
             let file = shown(file.as_slice());
             let signs = (load.separator, load.decimal);
-            lines.add(&(line, "LOAD", script, file, load.skip, signs));
+            match load.rejects {
+                Some(most) => lines.add(&(line, "LOAD", script, file, load.skip, signs, most)),
+                None => lines.add(&(line, "LOAD", script, file, load.skip, signs)),
+            }
         }
         None => lines.add(&(line, "LOAD", script)),
     }

@@ -1,10 +1,10 @@
 -- The readers of a load are exact.
-use Rattle.std.proofs.Common.{ℕ, List, [], ◌∷◌, ◌++◌, Some, None, true, false, codes, refl, ◌≡◌, ◌∙◌, ap}
+use Rattle.std.proofs.Common.{ℕ, List, [], ◌∷◌, ◌++◌, Option, Some, None, true, false, codes, refl, ◌≡◌, ◌∙◌, ap, subst}
 use Rattle.std.specs.Str.{str_eq_ignore_ascii_case}
 use Rattle.cube_lex.specs.Lexeme.{Lexeme}
-use Rattle.grammar.specs.Grammar.{Grammar, both, done}
+use Rattle.grammar.specs.Grammar.{Grammar, one, both, done}
 use Rattle.grammar.specs.Reading.{both_of, gives, starts}
-use Rattle.grammar.specs.Tokens.{is_sign, is_word, is_text}
+use Rattle.grammar.specs.Tokens.{word, whole, is_sign, is_word, is_text}
 use Rattle.grammar.proofs.Exact.{Exact, Always, Not, exact_gives, exact_then, exact_both, exact_made, exact_before, exact_choose}
 use Rattle.grammar.proofs.Begins.{Begins, begins_both, begins_optional, exact_or, exact_option, starts_text}
 use Rattle.grammar.proofs.After.{exact_rest_after}
@@ -12,8 +12,8 @@ use Rattle.grammar.proofs.Tokens.{exact_sign, exact_word, exact_name, exact_file
 use Rattle.user_text.specs.Counting.{count, counting}
 use Rattle.cube_fixed.specs.Text.{decimal_point}
 use Rattle.user_text.specs.FileSigns.{comma, separator, decimal}
-use Rattle.user_text.specs.UserText.{Source, skip, given_source, source, value, param, next_param, params_behind, with_params, loading, load}
-use Rattle.user_text.specs.Readers.Reading.{read_skip, read_separator, read_decimal, read_given_source, read_source, read_value, read_param, read_next_param, read_further_params, read_params, read_load}
+use Rattle.user_text.specs.UserText.{Source, skip, rejects, given_source, source, value, param, next_param, params_behind, with_params, loading, load}
+use Rattle.user_text.specs.Readers.Reading.{read_skip, read_separator, read_decimal, read_rejects, read_given_source, read_source, read_value, read_param, read_next_param, read_further_params, read_params, read_load}
 use Rattle.user_text.specs.declared.command.ParamText.{ParamText}
 use Rattle.user_text.specs.declared.command.ParamText.TheVariants as params
 use Rattle.user_text.specs.declared.command.UserCommand.{UserCommand}
@@ -25,45 +25,71 @@ skip_exact : Exact counting skip skip read_skip (Not (is_word (codes "SKIP")))
 unfolding read_skip
 skip_exact = exact_option (is_word (codes "SKIP")) 0 (begins_both (word_begins (codes "SKIP") (codes "SKIP"))) (exact_then (exact_word count (codes "SKIP")) (λ _. exact_whole_number count))
 
+-- `REJECTS whole`
+abbrev said_rejects : Grammar Lexeme (Option ℕ)
+said_rejects = both (one (word (codes "REJECTS"))) (λ _. both (one whole) (λ most. done (Some most)))
+
+rejects_begins : (other : List ℕ) → Begins said_rejects (is_word other) (str_eq_ignore_ascii_case (codes "REJECTS") other)
+rejects_begins other = begins_both (word_begins (codes "REJECTS") other)
+
+rejects_exact : Exact counting rejects rejects read_rejects (Not (is_word (codes "REJECTS")))
+unfolding read_rejects
+rejects_exact = exact_option (is_word (codes "REJECTS")) None (rejects_begins (codes "REJECTS")) (exact_then (exact_word count (codes "REJECTS")) (λ _. exact_then (exact_whole_number count) (λ most. exact_gives counting (Some most))))
+
 -- what may stand behind the source
 record BehindSource (rest : List Lexeme) : Type 0 where
   from : Not (is_word (codes "FROM")) rest
   skip : Not (is_word (codes "SKIP")) rest
   separator : Not (is_word (codes "SEPARATOR")) rest
   decimal : Not (is_word (codes "DECIMAL")) rest
+  rejects : Not (is_word (codes "REJECTS")) rest
 
 -- what may stand behind the file
 record BehindFile (rest : List Lexeme) : Type 0 where
   skip : Not (is_word (codes "SKIP")) rest
   separator : Not (is_word (codes "SEPARATOR")) rest
   decimal : Not (is_word (codes "DECIMAL")) rest
+  rejects : Not (is_word (codes "REJECTS")) rest
 
 separator_no_skip : Begins said_separator (is_word (codes "SKIP")) false
 separator_no_skip = begins_both (word_begins (codes "SEPARATOR") (codes "SKIP"))
 
-behind_decimal : (rest : List Lexeme) → BehindFile rest → Not (is_word (codes "DECIMAL")) rest
-behind_decimal rest stops = stops.decimal
+behind_rejects : (rest : List Lexeme) → BehindFile rest → Not (is_word (codes "REJECTS")) rest
+behind_rejects rest stops = stops.rejects
 
--- the signs of a file of this name, of which so many records are passed over
+-- the signs of a file of this name, of which so many records are skipped, and how many may be passed over
 module _ (path : List ℕ) (records : ℕ) where
-  -- [ "DECIMAL" Text ]
-  abbrev decimal_rest : ℕ → Grammar Lexeme Source
-  decimal_rest byte = both (decimal byte) (λ mark. done (Some path, records, byte, mark))
+  -- [ "REJECTS" whole ]
+  abbrev rejects_rest : ℕ → ℕ → Grammar Lexeme Source
+  rejects_rest byte mark = both rejects (λ most. done (Some path, records, byte, mark, most))
 
-  -- [ "SEPARATOR" ( Text | "TAB" ) ] [ "DECIMAL" Text ]
+  -- [ "DECIMAL" Text ] [ "REJECTS" whole ]
+  abbrev decimal_rest : ℕ → Grammar Lexeme Source
+  decimal_rest byte = both (decimal byte) (rejects_rest byte)
+
+  -- [ "SEPARATOR" ( Text | "TAB" ) ] [ "DECIMAL" Text ] [ "REJECTS" whole ]
   abbrev signs_rest : Grammar Lexeme Source
   signs_rest = both separator decimal_rest
 
-  decimal_no_word : (byte : ℕ) (other : List ℕ) → str_eq_ignore_ascii_case (codes "DECIMAL") other ≡ false → Passed (is_word other) (decimal_rest byte)
-  decimal_no_word byte other differs = passed_both (passed_decimal byte other differs) (λ mark. passed_done)
+  rejects_no_word : (byte mark : ℕ) (other : List ℕ) → str_eq_ignore_ascii_case (codes "REJECTS") other ≡ false → Passed (is_word other) (rejects_rest byte mark)
+  rejects_no_word byte mark other differs = passed_both (passed_option (subst (Begins said_rejects (is_word other)) differs (rejects_begins other))) (λ most. passed_done)
+
+  decimal_no_word : (byte : ℕ) (other : List ℕ) → str_eq_ignore_ascii_case (codes "DECIMAL") other ≡ false → str_eq_ignore_ascii_case (codes "REJECTS") other ≡ false → Passed (is_word other) (decimal_rest byte)
+  decimal_no_word byte other differs differ = passed_both (passed_decimal byte other differs) (λ mark. rejects_no_word byte mark other differ)
 
   signs_no_skip : Passed (is_word (codes "SKIP")) signs_rest
-  signs_no_skip = passed_both (passed_option separator_no_skip) (λ byte. decimal_no_word byte (codes "SKIP") refl)
+  signs_no_skip = passed_both (passed_option separator_no_skip) (λ byte. decimal_no_word byte (codes "SKIP") refl refl)
 
-  signs_exact : Exact counting signs_rest signs_rest (both_of read_separator (λ byte. both_of (read_decimal byte) (λ mark. gives (Some path, records, byte, mark)))) BehindFile
-  signs_exact = exact_both separator_exact
-      (λ byte. exact_before behind_decimal (exact_made (λ mark. (Some path, records, byte, mark)) (decimal_exact byte)))
-      (λ byte v b rest l stops. (decimal_no_word byte (codes "SEPARATOR") refl).at v b rest l stops.separator)
+  rejects_rest_exact : (byte mark : ℕ) → Exact counting (rejects_rest byte mark) (rejects_rest byte mark) (both_of read_rejects (λ most. gives (Some path, records, byte, mark, most))) BehindFile
+  rejects_rest_exact byte mark = exact_before behind_rejects (exact_made (λ most. (Some path, records, byte, mark, most)) rejects_exact)
+
+  decimal_rest_exact : (byte : ℕ) → Exact counting (decimal_rest byte) (decimal_rest byte) (both_of (read_decimal byte) (λ mark. both_of read_rejects (λ most. gives (Some path, records, byte, mark, most)))) BehindFile
+  decimal_rest_exact byte = exact_both (decimal_exact byte) (rejects_rest_exact byte)
+      (λ mark v b rest l stops. (rejects_no_word byte mark (codes "DECIMAL") refl).at v b rest l stops.decimal)
+
+  signs_exact : Exact counting signs_rest signs_rest (both_of read_separator (λ byte. both_of (read_decimal byte) (λ mark. both_of read_rejects (λ most. gives (Some path, records, byte, mark, most))))) BehindFile
+  signs_exact = exact_both separator_exact decimal_rest_exact
+      (λ byte v b rest l stops. (decimal_no_word byte (codes "SEPARATOR") refl refl).at v b rest l stops.separator)
 
 given_source_exact : Exact counting given_source given_source read_given_source BehindFile
 unfolding read_given_source
@@ -78,8 +104,8 @@ source_exact : Exact counting source source read_source BehindSource
 unfolding read_source
 source_exact = exact_choose {S = BehindFile} {S' = Always} {S'' = BehindSource} (is_word (codes "FROM"))
     given_source_exact
-    (exact_gives counting (None, 0, comma, decimal_point))
-    (λ u a rest h stops. (starts_text given_source_begins u a rest h, record { skip = stops.skip; separator = stops.separator; decimal = stops.decimal }))
+    (exact_gives counting (None, 0, comma, decimal_point, None))
+    (λ u a rest h stops. (starts_text given_source_begins u a rest h, record { skip = stops.skip; separator = stops.separator; decimal = stops.decimal; rejects = stops.rejects }))
     (λ u a rest nothing stops. (ap (λ x. starts (is_word (codes "FROM")) (x ++ rest)) nothing.0 ∙ stops.from, tt))
 
 value_exact : Exact counting value value read_value Always
@@ -131,6 +157,9 @@ rest_no_decimal line script records = begins_optional (begins_both (word_begins 
 rest_no_separator : (line : ℕ) (script : List ℕ) (records : Source) → Begins (load_rest line script records) (is_word (codes "SEPARATOR")) false
 rest_no_separator line script records = begins_optional (begins_both (word_begins (codes "WITH") (codes "SEPARATOR"))) (λ variables. closed_word (loading line script records variables) (codes "SEPARATOR"))
 
+rest_no_rejects : (line : ℕ) (script : List ℕ) (records : Source) → Begins (load_rest line script records) (is_word (codes "REJECTS")) false
+rest_no_rejects line script records = begins_optional (begins_both (word_begins (codes "WITH") (codes "REJECTS"))) (λ variables. closed_word (loading line script records variables) (codes "REJECTS"))
+
 pub load_exact : Exact counting load load read_load Always
 unfolding read_load
 load_exact = exact_then (exact_word count (codes "LOAD")) (λ line. exact_then (exact_name count) (λ script. exact_both source_exact
@@ -145,4 +174,5 @@ load_exact = exact_then (exact_word count (codes "LOAD")) (λ line. exact_then (
       skip = starts_text (rest_no_skip line script records) v b rest l;
       separator = starts_text (rest_no_separator line script records) v b rest l;
       decimal = starts_text (rest_no_decimal line script records) v b rest l;
+      rejects = starts_text (rest_no_rejects line script records) v b rest l;
     })))

@@ -28,7 +28,7 @@ unfolding records_from
 turn_ends by rem a b fields zero y config left read = refl
 turn_ends by rem a b fields (suc n) y config left read = rw (rows-end rem a b fields by y config left read) refl
 
--- a record that is passed over, and one that is kept
+-- a record that is skipped, and one that is kept
 pub passes_over : (n m : ℕ) (rows left rest all : List (List (List ℕ))) (fields : List (List ℕ))
     → n ≡ suc m → left ≡ fields ∷ rest → rows ++ drop n left ≡ all → rows ++ drop m rest ≡ all
 passes_over n m rows left rest all fields one is whole = rw (one, is) at whole

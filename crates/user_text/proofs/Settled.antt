@@ -5,7 +5,7 @@ use Rattle.grammar.proofs.Lists.{listed_settles, names_settle, minus_settles}
 use Rattle.grammar.proofs.Settles.{Settles, settles_one, settles_gives, settles_both, settles_choose, settles_all, settles_all_after}
 use Rattle.user_text.specs.Counting.{count}
 use Rattle.cube_fixed.specs.Text.{decimal_point}
-use Rattle.user_text.specs.Readers.Reading.{is_command_word, read_cell, read_amount, read_put, read_get, read_skip, read_given_separator, read_separator, read_given_decimal, read_decimal_by, read_decimal, read_given_source, read_source, read_value, read_param, read_next_param, read_further_params, read_params, read_load, read_elements, read_set, read_next_set, read_axis, read_point, read_points, read_nozeros, read_view, read_spread_word, read_spread, read_trace, read_alone, read_of_sandboxes, read_command, read_user}
+use Rattle.user_text.specs.Readers.Reading.{is_command_word, read_cell, read_amount, read_put, read_get, read_skip, read_given_separator, read_separator, read_given_decimal, read_decimal_by, read_decimal, read_rejects, read_given_source, read_source, read_value, read_param, read_next_param, read_further_params, read_params, read_load, read_elements, read_set, read_next_set, read_axis, read_point, read_points, read_nozeros, read_view, read_spread_word, read_spread, read_trace, read_alone, read_of_sandboxes, read_command, read_user}
 use Rattle.user_text.specs.declared.command.ParamText.{ParamText}
 use Rattle.user_text.specs.declared.command.UserBody.{UserBody}
 
@@ -50,10 +50,14 @@ decimal_settles : (byte : ℕ) → Settles (read_decimal byte)
 unfolding read_decimal
 decimal_settles byte = decimal_by_settles (byte == decimal_point) byte
 
+rejects_settles : Settles read_rejects
+unfolding read_rejects
+rejects_settles = settles_choose _ (settles_both (settles_one _ _) (λ _. settles_both (settles_one _ _) (λ most. settles_gives _))) (settles_gives _)
+
 given_source_settles : Settles read_given_source
 unfolding read_given_source
 given_source_settles = settles_both (settles_one _ _) (λ _. settles_both (settles_one _ _) (λ path. settles_both skip_settles
-    (λ records. settles_both separator_settles (λ byte. settles_both (decimal_settles byte) (λ mark. settles_gives _)))))
+    (λ records. settles_both separator_settles (λ byte. settles_both (decimal_settles byte) (λ mark. settles_both rejects_settles (λ most. settles_gives _))))))
 
 source_settles : Settles read_source
 unfolding read_source

@@ -10,6 +10,6 @@ abbrev pub shared_records : Option (Arc (List (List (List ℕ))) Global) → Lis
 shared_records None = []
 shared_records (Some records) = arc_value records
 
--- the records of the load's file behind those that are passed over
+-- the records of the load's file behind those that are skipped
 abbrev pub rows_in : LoadJob → List (List (List ℕ))
 rows_in job = drop job.skip (shared_records job.records)

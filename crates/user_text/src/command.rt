@@ -24,7 +24,7 @@ pub struct LoadText {
     pub script: Name,
     /// The file of the records, which is UTF-8 and not empty. Without one there are no records.
     pub file: Option<ListOf<u8>>,
-    /// How many records at the file's beginning are passed over.
+    /// How many records at the file's beginning are skipped.
     pub skip: u32,
     /// The byte between the columns of the file.
     pub separator: u8,

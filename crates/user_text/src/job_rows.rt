@@ -9,7 +9,7 @@ use std::marker::Model;
 #[derive(Drop)]
 pub struct Rows<'a> {
     records: Option<&'a Records>,
-    /// How many of the records are passed over.
+    /// How many of the records are skipped.
     passed: usize,
 }
 

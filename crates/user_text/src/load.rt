@@ -12,7 +12,7 @@ use grammar::{Cursor, Stop, file, name, sign, whole, word, word_comes};
 use lists::ListOf;
 use std::alloc::Global;
 
-/// Reads how many records are passed over. Where nothing is said it is none.
+/// Reads how many records at the file's beginning are skipped. Where nothing is said it is none.
 #[tactic(auto, unfolding(crate::specs::Readers::Reading::read_skip))]
 fn skip_at(cursor: &mut Cursor<'_, Counted>) -> Result<u32, Stop<TooMany>>
     ensures { Reads (λ records. records) reading.read_skip cursor.old result cursor.new }
@@ -25,7 +25,7 @@ fn skip_at(cursor: &mut Cursor<'_, Counted>) -> Result<u32, Stop<TooMany>>
     }
 }
 
-/// Reads how many records may be passed over at most.
+/// Reads how many records may be passed over at most, where that is said.
 #[tactic(auto, unfolding(crate::specs::Readers::Reading::read_rejects))]
 fn rejects_at(cursor: &mut Cursor<'_, Counted>) -> Result<Option<u32>, Stop<TooMany>>
     ensures { Reads (λ rejects. rejects) reading.read_rejects cursor.old result cursor.new }

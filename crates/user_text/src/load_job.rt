@@ -14,7 +14,7 @@ pub struct LoadJob {
     pub script: u32,
     /// The records of the load's file. All loads of the file share them. Without a file there are none.
     pub records: Option<Arc<Records, Global>>,
-    /// How many records at the file's beginning are passed over.
+    /// How many records at the file's beginning are skipped.
     pub skip: u32,
     /// The byte between units and decimals of the numbers in the file.
     pub decimal: u8,
