@@ -149,10 +149,10 @@ apart a b x y p r e =
         absurd (omega (arith, begun, less, is))
 
 load_replies_end : (a b : List ℕ) → IsLoadReply a → IsLoadReply b → EndAlike a b
-load_replies_end a b (inl p) (inl q) = listed_end a b p q
+load_replies_end a b (inl p) (inl q) x y e = listed_end a b p q x y e
 load_replies_end a b (inl p) (inr r) x y e = absurd (apart a b x y p r e)
 load_replies_end a b (inr r) (inl q) x y e = absurd (apart b a y x q r (sym e))
-load_replies_end a b (inr r) (inr s) = plain_ends a b r.0 s.0
+load_replies_end a b (inr r) (inr s) x y e = plain_ends a b r.0 s.0 x y e
 
 -- the lines of the records that were passed over
 abbrev places : List Reject → List (List ℕ)
