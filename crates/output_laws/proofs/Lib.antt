@@ -8,6 +8,8 @@ pub mod Entries
 pub mod Owners
 pub mod Names
 pub mod Tables
+pub mod RejectCount
+pub mod LoadReplies
 pub mod Replies
 pub mod Histories
 pub mod Alike

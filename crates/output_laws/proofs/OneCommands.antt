@@ -39,6 +39,7 @@ module _ (files : ModelFiles) (sources : List Source) where
         script = some_same (sym p.script ∙ ap (slice_get files.bound) place ∙ q.script);
         records = some_same (sym p.records ∙ q.records);
         decimal = p.decimal ∙ sym q.decimal;
+        rejects = p.rejects ∙ sym q.rejects;
         params = p.params ∙ sym q.params;
       }
 

@@ -1,9 +1,10 @@
 -- The replies to one act on any two versions of a model, whatever its user's sandbox keeps, end alike.
-use Rattle.std.proofs.Common.{◌≡◌, ℕ, ℤ, true, List, [], ◌∷◌, ◌++◌, length, take, codes, decimal, get_or, Option, Some, None, Result, Ok, Err, ◌⊎◌, inl, inr, refl, sym, ap, ◌∙◌, subst, arith}
+use Rattle.std.proofs.Common.{◌≡◌, ℕ, zero, suc, ◌==◌, ℤ, true, not, List, [], ◌∷◌, ◌++◌, length, take, drop, codes, decimal, get_or, Option, Some, None, unwrap_or, Result, Ok, Err, ◌⊎◌, inl, inr, refl, sym, ap, ◌∙◌, subst, arith}
 use Rattle.std.specs.Arc.{arc_value}
 use Rattle.std.specs.Option.{option_map}
 use Rattle.std.specs.declared.alloc.Global.{Global}
 use Rattle.std.specs.declared.sync.Arc.{Arc}
+use Rattle.std.proofs.lemmas.Bool.{and_parts}
 use Rattle.history.specs.declared.entry.Entry.{Entry}
 use Rattle.history.specs.declared.effect.Effect.TheVariants.{Commit, Rejected, Read}
 use Rattle.history.specs.Version.{content_after, version}
@@ -30,16 +31,11 @@ use Rattle.script_bound.specs.declared.script.BoundScript.{BoundScript}
 use Rattle.script_run.specs.Load.{load, ran_of, writes_of}
 use Rattle.script_run.specs.declared.ran.Ran.{Ran}
 use Rattle.script_run.specs.declared.ran.Ran.TheVariants.{Done, Rejected as Stopped}
-use Rattle.script_tree.specs.declared.script.Section.{Section}
-use Rattle.script_tree.specs.declared.script.Section.TheVariants as sections
-use Rattle.script_values.specs.declared.load_reason.LoadReason.{LoadReason}
-use Rattle.script_values.specs.declared.load_reason.LoadReason.TheVariants as stops
 use Rattle.trace_text.specs.TraceText.{reply_text as traced_text}
 use Rattle.trace_text.proofs.Ends.{replies_end as traced_end}
 use Rattle.user_session.specs.Content.{opening, after}
 use Rattle.user_session.specs.Layers.{answer, sandbox, unfit}
 use Rattle.user_session.specs.Planning.{effect, fixed_effect, misfit, named_cell, passed_limit, put_effect, get_effect, load_effect, spread_effect, how_of, table_effect, trace_effect, view_effect, ended_effect, unless_closed, unless_fault, unless_reason, write_effect, committed, value_at, PlanEffect}
-use Rattle.user_session.specs.RejectedLoad.{stopped_text, section_text, cause_text}
 use Rattle.user_session.specs.Replies.{reason_text, reply_text, fault_text, spread_fault_text}
 use Rattle.user_session.specs.declared.command.PlanCommand.{PlanCommand}
 use Rattle.user_session.specs.declared.command.PlanCommand.TheVariants.{Put, Get, Load, View, Spread, Trace, Fixed}
@@ -61,6 +57,7 @@ use Rattle.view_query.proofs.BoundFacts.{answers_view}
 use Rattle.output_laws.specs.Laws.{IsQuestion}
 use Rattle.output_laws.proofs.Lines.{lacks, EndAlike, plain_ends, same_ends}
 use Rattle.trace_text.proofs.Plain.{lacks-append, decimal_lacks, printed_plain}
+use Rattle.output_laws.proofs.LoadReplies.{loads_end, stopped_plain}
 use Rattle.output_laws.proofs.Published.{question_reply}
 use Rattle.output_laws.proofs.Tables.{table_apart, tables_end}
 
@@ -86,9 +83,6 @@ refused_plain reasons.StoreLimit = refl
 refused_plain reasons.FedLimit = refl
 refused_plain reasons.NoSandbox = refl
 refused_plain reasons.SandboxOpen = refl
-
-kept_plain : (writes : List (ℕ × ℤ)) → lacks newline (sandbox.kept writes) ≡ true
-kept_plain writes = lacks-append newline (codes "kept ") (decimal (length writes)) refl (decimal_lacks newline (length writes) (omega arith))
 
 committed_plain : (writes : List (ℕ × ℤ)) → IsPlain (committed writes)
 committed_plain writes = lacks-append newline (codes "committed ") (decimal (length writes)) refl (decimal_lacks newline (length writes) (omega arith))
@@ -136,52 +130,26 @@ get_plain : (content : Content) (o : Option ℕ) → IsPlain (get_effect content
 get_plain content None = refl
 get_plain content (Some cell) = printed_plain (value_at content cell)
 
-section_plain : (section : Section) → lacks newline (section_text section) ≡ true
-section_plain sections.Prolog = refl
-section_plain sections.Body = refl
-section_plain sections.Epilog = refl
-
-cause_plain : (reason : LoadReason) → lacks newline (cause_text reason) ≡ true
-cause_plain stops.UnknownName = refl
-cause_plain stops.NotALeaf = refl
-cause_plain stops.RuleDerived = refl
-cause_plain stops.NotANumber = refl
-cause_plain stops.OverWrite = refl
-cause_plain stops.ProcessError = refl
-cause_plain stops.StepLimit = refl
-cause_plain (stops.StoreLimit count) = refl
-cause_plain (stops.FedLimit count) = refl
-cause_plain stops.UnsetVariable = refl
-cause_plain stops.TypeMismatch = refl
-cause_plain stops.TextLimit = refl
-
-stopped_plain : (section : Section) (row statement : ℕ) (reason : LoadReason) → lacks newline (stopped_text section row statement reason) ≡ true
-stopped_plain section row statement reason =
-    lacks-append newline (codes "rejected " ++ section_text section ++ codes " record " ++ decimal row ++ codes " statement " ++ decimal statement ++ codes " ") (cause_text reason)
-    (lacks-append newline (codes "rejected " ++ section_text section ++ codes " record " ++ decimal row ++ codes " statement " ++ decimal statement) (codes " ")
-    (lacks-append newline (codes "rejected " ++ section_text section ++ codes " record " ++ decimal row ++ codes " statement ") (decimal statement)
-    (lacks-append newline (codes "rejected " ++ section_text section ++ codes " record " ++ decimal row) (codes " statement ")
-    (lacks-append newline (codes "rejected " ++ section_text section ++ codes " record ") (decimal row)
-    (lacks-append newline (codes "rejected " ++ section_text section) (codes " record ")
-    (lacks-append newline (codes "rejected ") (section_text section) refl (section_plain section)) refl)
-    (decimal_lacks newline row (omega arith))) refl)
-    (decimal_lacks newline statement (omega arith))) refl)
-    (cause_plain reason)
-
-ended_plain : (ran : Ran) (writes : List (ℕ × ℤ)) → IsPlain (ended_effect ran writes)
-ended_plain Done writes = committed_plain (last_writes writes)
-ended_plain (Stopped section row statement reason) writes = stopped_plain section row statement reason
-
-load_plain : (content : Content) (job : LoadJob) (script : BoundScript) → IsPlain (load_effect content job script)
-load_plain content job script =
-    let outcome = load script job.params job.decimal (rows_in job) (store_of content.model content.stored) [] in
-    ended_plain (ran_of outcome) (writes_of outcome)
+-- a load that passes over no records
+load_plain : (content : Content) (job : LoadJob) (script : BoundScript) → job.rejects ≡ None → IsPlain (load_effect content job script)
+load_plain content job script says =
+    let outcome = load script job.params job.decimal (unwrap_or job.rejects 0) (rows_in job) (store_of content.model content.stored) [] in
+    subst (λ most. IsPlain (ended_effect most (ran_of outcome) (writes_of outcome))) (sym says) (ended (ran_of outcome) (writes_of outcome))
+  where
+    ended : (ran : Ran) (writes : List (ℕ × ℤ)) → IsPlain (ended_effect None ran writes)
+    ended (Done rejects) writes = lacks-append newline (reply_text (replies.Committed (length (last_writes writes)))) [] (committed_plain (last_writes writes)) refl
+    ended (Stopped section row statement reason) writes = stopped_plain section row statement reason
 
 -- ---- replies in a sandbox
 
+lacks_drop : (n : ℕ) (text : List ℕ) → lacks newline text ≡ true → lacks newline (drop n text) ≡ true
+lacks_drop zero text plain = plain
+lacks_drop (suc n) [] plain = refl
+lacks_drop (suc n) (byte ∷ text) plain = lacks_drop n text (and_parts (not (byte == newline)) (lacks newline text) plain).1
+
 -- a command's reply in one line is in one line in a sandbox too
 kept_in_plain : (layer : List (ℕ × ℤ)) (found : PlanEffect) → IsPlain found → IsPlain (kept_in sandbox layer found).0
-kept_in_plain layer (Commit writes reply) plain = kept_plain writes
+kept_in_plain layer (Commit writes reply) plain = lacks-append newline (codes "kept") (drop (length (codes "committed")) reply) refl (lacks_drop (length (codes "committed")) reply plain)
 kept_in_plain layer (Rejected reply) plain = plain
 kept_in_plain layer (Read reply) plain = plain
 
@@ -354,7 +322,11 @@ on_one_model model is rules (acts.Do (Put text number)) cells others layer more 
 on_one_model model is rules (acts.Do (Get text)) cells others layer more =
     in_one_line (Get text) (λ content. get_plain content (named_cell content.model text)) (content_of model cells) (content_of model others) layer more
 on_one_model model is rules (acts.Do (Load job script)) cells others layer more =
-    in_one_line (Load job script) (λ content. load_plain content job (arc_value script)) (content_of model cells) (content_of model others) layer more
+    by job.rejects refl
+  where
+    by : (most : Option ℕ) → job.rejects ≡ most → EndAlike (reply_of (answer (content_of model cells) layer (acts.Do (Load job script))).0) (reply_of (answer (content_of model others) more (acts.Do (Load job script))).0)
+    by None says = in_one_line (Load job script) (λ content. load_plain content job (arc_value script) says) (content_of model cells) (content_of model others) layer more
+    by (Some most) says = loads_end job script most says (content_of model cells) (content_of model others) layer more
 on_one_model model is rules (acts.Do (View text)) cells others layer more =
     question_ends model (View text) tt (view_ends model is text) cells others layer more
 on_one_model model is rules (acts.Do (Spread text amount how)) cells others layer more =

@@ -1,5 +1,5 @@
 -- Commands that are one but for pointers do the same, so jobs of them have the same texts.
-use Rattle.std.proofs.Common.{◌≡◌, ℕ, ℤ, List, [], ◌∷◌, Option, Some, None, ap, sym, ◌∙◌, subst, arith}
+use Rattle.std.proofs.Common.{◌≡◌, ℕ, ℤ, List, [], ◌∷◌, Option, Some, None, unwrap_or, ap, sym, ◌∙◌, subst, arith}
 use Rattle.std.specs.Arc.{arc_value}
 use Rattle.std.specs.List.{AllZip}
 use Rattle.cube_server.specs.Answer.{IsServed}
@@ -10,14 +10,16 @@ use Rattle.run_passes.specs.declared.run_job.RunJob.TheVariants.{Serve, Check, F
 use Rattle.sandbox.specs.Sandboxes.{where_fit}
 use Rattle.sandbox.specs.declared.act.Act.{Act}
 use Rattle.sandbox.specs.declared.act.Act.TheVariants.{Open, Publish, Discard, Do}
+use Rattle.script_bound.specs.declared.script.BoundScript.{BoundScript}
 use Rattle.script_run.specs.Load.{load, ran_of, writes_of}
 use Rattle.user_session.specs.Content.{opening, after}
 use Rattle.user_session.specs.Layers.{answer, sandbox, unfit}
-use Rattle.user_session.specs.Planning.{effect, ended_effect, named_cell, trace_effect}
+use Rattle.user_session.specs.Planning.{effect, ended_effect, named_cell, trace_effect, PlanEffect}
 use Rattle.user_session.specs.declared.command.PlanCommand.{PlanCommand}
 use Rattle.user_session.specs.declared.command.PlanCommand.TheVariants.{Put, Get, Load, View, Spread, Trace, Fixed}
 use Rattle.user_session.specs.declared.content.Content.{Content}
 use Rattle.user_text.specs.Jobs.{rows_in}
+use Rattle.user_text.specs.declared.command.ParamText.{ParamText}
 use Rattle.output_laws.specs.SameJob.{IsSameCommand, IsSameAct}
 use Rattle.output_laws.specs.Same.{SameJobsPrintTheSame}
 use Rattle.output_laws.proofs.Alike.{AreAnsweredTheSame, zip_map, history_of_alike}
@@ -44,11 +46,14 @@ same_effect (Load job script) (Spread text amount how) same content = absurd sam
 same_effect (Load job script) (Trace text files) same content = absurd same
 same_effect (Load job script) (Fixed writes) same content = absurd same
 same_effect (Load job script) (Load other again) same content =
-    let store = store_of content.model content.stored in
-    ap (λ rows. ended_effect (ran_of (load (arc_value script) job.params job.decimal rows store [])) (writes_of (load (arc_value script) job.params job.decimal rows store []))) same.records
-    ∙ ap (λ byte. ended_effect (ran_of (load (arc_value script) job.params byte (rows_in other) store [])) (writes_of (load (arc_value script) job.params byte (rows_in other) store []))) same.decimal
-    ∙ ap (λ params. ended_effect (ran_of (load (arc_value script) params other.decimal (rows_in other) store [])) (writes_of (load (arc_value script) params other.decimal (rows_in other) store []))) same.params
-    ∙ ap (λ bound. ended_effect (ran_of (load bound other.params other.decimal (rows_in other) store [])) (writes_of (load bound other.params other.decimal (rows_in other) store []))) same.script
+    let done : BoundScript → List (List ℕ × ParamText) → ℕ → Option ℕ → List (List (List ℕ)) → PlanEffect = λ bound params byte most rows.
+    let outcome = load bound params byte (unwrap_or most 0) rows (store_of content.model content.stored) [] in
+    ended_effect most (ran_of outcome) (writes_of outcome) in
+    ap (λ rows. done (arc_value script) job.params job.decimal job.rejects rows) same.records
+    ∙ ap (λ byte. done (arc_value script) job.params byte job.rejects (rows_in other)) same.decimal
+    ∙ ap (λ most. done (arc_value script) job.params other.decimal most (rows_in other)) same.rejects
+    ∙ ap (λ params. done (arc_value script) params other.decimal other.rejects (rows_in other)) same.params
+    ∙ ap (λ bound. done bound other.params other.decimal other.rejects (rows_in other)) same.script
 
 same_answer : (a b : Act PlanCommand) → IsSameAct a b → (content : Content) (layer : Option (List (ℕ × ℤ))) → answer content layer a ≡ answer content layer b
 same_answer Open b same content layer = ap (λ act. answer content layer act) (sym same)

@@ -14,12 +14,13 @@ use Rattle.run_passes.specs.declared.run_job.RunJob.{RunJob}
 use Rattle.run_passes.specs.declared.run_job.RunJob.TheVariants as jobs
 
 -- two loads run one script, at one place in the model, over the same records, with the same byte between units and
--- decimals and the same variables set
+-- decimals, as many records that may be passed over, and the same variables set
 pub record IsSameLoad (job other : LoadJob) (bound again : BoundScript) : Type 0 where
   pub place : job.script ≡ other.script
   pub script : bound ≡ again
   pub records : rows_in job ≡ rows_in other
   pub decimal : job.decimal ≡ other.decimal
+  pub rejects : job.rejects ≡ other.rejects
   pub params : job.params ≡ other.params
 
 -- two commands are equal; two loads run alike, and two traces of one cell have the same names of rule files

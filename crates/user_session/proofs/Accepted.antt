@@ -1,5 +1,5 @@
 -- What is known of the writes of an accepted command.
-use Rattle.std.proofs.Common.{Result, Ok, Err, ◌≡◌, refl, subst, ℕ, ℤ, true, List, [], ◌∷◌, Option, Some, None}
+use Rattle.std.proofs.Common.{Result, Ok, Err, ◌≡◌, refl, subst, ℕ, ℤ, true, List, [], ◌∷◌, Option, Some, None, unwrap_or}
 use Rattle.std.proofs.lemmas.List.Elements.{All-nil, All-cons}
 use Rattle.cell_reader.specs.WritePermission.{why_closed}
 use Rattle.cell_reader.specs.declared.write_permission.Closed.{Closed}
@@ -77,21 +77,23 @@ spread-within content (Some c) amount how writes reply is =
 
 -- ---- an accepted LOAD
 
-ended-within : (content : Content) (ran : Ran) (written writes : List (ℕ × ℤ)) (reply : List ℕ) → AreWithin content written → ended_effect ran written ≡ Commit writes reply → AreWithin content writes
-ended-within content Done written writes reply within is =
+ended-within : (content : Content) (most : Option ℕ) (ran : Ran) (written writes : List (ℕ × ℤ)) (reply : List ℕ) → AreWithin content written → ended_effect most ran written ≡ Commit writes reply
+    → AreWithin content writes
+ended-within content most (Done rejects) written writes reply within is =
     let same : last_writes written ≡ writes = cc in
     subst (AreWithin content) same (last-within content written within)
-ended-within content (Stopped section row statement reason) written writes reply within is = absurd (cc)
+ended-within content most (Stopped section row statement reason) written writes reply within is = absurd (cc)
 
 load-within : (content : Content) (job : LoadJob) (script : BoundScript) (writes : List (ℕ × ℤ)) (reply : List ℕ) → load_effect content job script ≡ Commit writes reply
     → AreWithin content writes
 load-within content job script writes reply is =
     let store = store_of content.model content.stored in
-    let outcome = load script job.params job.decimal (rows_in job) store [] in
+    let most = unwrap_or job.rejects 0 in
+    let outcome = load script job.params job.decimal most (rows_in job) store [] in
     let kept : AreWithin content (writes_of outcome) =
     load_keeps store (AreWithin content) (λ before after cube elements value within written. write-kept content before after within cube elements value written)
-    (λ before after cube elements within zeroed. zeroing-kept content before after within cube elements zeroed) script job.params job.decimal (rows_in job) [] (before-writes content) in
-    ended-within content (ran_of outcome) (writes_of outcome) writes reply kept is
+    (λ before after cube elements within zeroed. zeroing-kept content before after within cube elements zeroed) script job.params job.decimal most (rows_in job) [] (before-writes content) in
+    ended-within content job.rejects (ran_of outcome) (writes_of outcome) writes reply kept is
 
 -- ---- fixed writes that are accepted
 

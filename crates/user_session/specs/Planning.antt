@@ -1,7 +1,7 @@
 -- What a planner's commands do on a version of the numbers.
 use Rattle.std.specs.Prelude.{ℕ, nat_lt, ℤ, Bool, ◌&&◌, List, [], ◌∷◌, length, Option, Some, None, ◌++◌, codes}
 use Rattle.std.specs.Prelude.{Result, Ok, Err}
-use Rattle.std.specs.Prelude.{get_or, if◌then◌else◌}
+use Rattle.std.specs.Prelude.{unwrap_or, if◌then◌else◌}
 use Rattle.std.specs.List.{list_all}
 use Rattle.std.specs.Arc.{arc_value}
 use Rattle.cube_fixed.specs.declared.value.Value.{Value}
@@ -125,7 +125,7 @@ ended_effect most (Stopped section row statement reason) writes =
 -- a load of a script over records, from no writes
 abbrev pub load_effect : Content → LoadJob → BoundScript → PlanEffect
 load_effect content job script =
-    let most = get_or 0 job.rejects in
+    let most = unwrap_or job.rejects 0 in
     let outcome = load script job.params job.decimal most (rows_in job) (store_of content.model content.stored) [] in
     ended_effect job.rejects (ran_of outcome) (writes_of outcome)
 

@@ -1,4 +1,5 @@
-ghost use Rattle.std.specs.Prelude.{◌≡◌, ◌++◌, length, IfOk};
+ghost use Rattle.std.specs.Prelude.{◌≡◌, ◌++◌, length, IfOk, OnOk};
+ghost use Rattle.std.specs.List.{flat_map};
 ghost use Rattle.history.specs.declared.effect.Effect.TheVariants as effects;
 ghost use Rattle.user_session.specs.Content.{content_of};
 ghost use Rattle.user_session.specs.Planning.{load_effect};
@@ -81,19 +82,28 @@ fn loaded(
 fn with_rejects(alloc: Global, head: &[u8], rejects: &[Reject]) -> Result<Vec<u8>, AllocError>
     ensures { IfOk result (λ text. text.items ≡ head.now ++ rejects_text rejects.now) }
 {
-    let mut text = Vec::from_slice(alloc, head)?;
     let count = rejects.len();
-    text.extend_from_slice(format!(in alloc; " rejects {count}")?.as_bytes())?;
-    for reject in rejects {
-        let line = reject_line(alloc, reject)?;
-        text.extend_from_slice(&line)?;
-    }
+    let told = format!(in alloc; " rejects {count}")?;
+    let mut text = Vec::from_slice(alloc, head)?;
+    text.extend_from_slice(told.as_bytes())?;
+    push_rejects(alloc, &mut text, rejects)?;
     Ok(text)
 }
 
+// Appends a line for each of these records.
+fn push_rejects(alloc: Global, text: &mut Vec<u8>, rejects: &[Reject]) -> Result<(), AllocError>
+    ensures { OnOk result (text.new.items ≡ text.old.items ++ flat_map reject_line rejects.now) }
+{
+    'each: for index in 0..rejects.len() {
+        let line = reject_line(alloc, rejects[index])?;
+        text.extend_from_slice(&line)?;
+    }
+    Ok(())
+}
+
 // A line end, and `Data record R statement S REASON`.
-fn reject_line(alloc: Global, reject: &Reject) -> Result<Vec<u8>, AllocError>
-    ensures { IfOk result (λ text. text.items ≡ reject_line reject.now) }
+fn reject_line(alloc: Global, reject: Reject) -> Result<Vec<u8>, AllocError>
+    ensures { IfOk result (λ text. text.items ≡ reject_line reject) }
 {
     let row = reject.row;
     let statement = reject.statement;
