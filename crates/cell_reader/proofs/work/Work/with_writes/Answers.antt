@@ -1,0 +1,23 @@
+use Rattle.std.proofs.Common.{◌≡◌, ◌∙◌, ap, ℕ, ℤ, ◌-◌, List, drop, take}
+use Rattle.std.specs.Arc.{arc_value}
+use Rattle.cell_store.specs.Entries.{after_writes}
+use Rattle.cell_versions.specs.Versions.{NumberedVersion}
+use Rattle.cell_reader.specs.Inside.After.{IsAfter}
+use Rattle.cell_reader.proofs.Works.{first_count, next-leaves, next-within}
+use Rattle.cell_reader.proofs.work.Work.with_writes.Goals as goal
+
+pub version_within-requires-clause-leaves : goal.version_within-requires-clause-leaves
+version_within-requires-clause-leaves c =
+    let work = c.args.self.now in
+    let made = c.args.first.made in
+    let slice : take (c.args.count - made) (drop made c.deref.result.now) ≡ take (c.args.count - made) (drop made work.written.items) = ap (λ (ws : List (ℕ × ℤ)). take (c.args.count - made) (drop made ws)) c.deref.ensures.value in
+    rw (slice, c.deref-2.ensures)
+    (next-leaves (arc_value work.opening) (arc_value c.args.first.version) work.written.items made c.args.count c.requires.first c.requires.few work.ahead.leaves)
+
+pub version_within-requires-clause-within : goal.version_within-requires-clause-within
+version_within-requires-clause-within c =
+    let work = c.args.self.now in
+    let made = c.args.first.made in
+    let slice : take (c.args.count - made) (drop made c.deref.result.now) ≡ take (c.args.count - made) (drop made work.written.items) = ap (λ (ws : List (ℕ × ℤ)). take (c.args.count - made) (drop made ws)) c.deref.ensures.value in
+    rw (slice, c.deref-2.ensures)
+    (next-within (arc_value work.opening) (arc_value c.args.first.version) work.written.items made c.args.count c.requires.first c.requires.few work.ahead.leaves c.requires.within)
