@@ -1,15 +1,13 @@
 -- A load's work with one write more, and memories of its values.
-use Rattle.std.proofs.Common.{◌≡◌, ◌∙◌, refl, sym, ap, subst, arith, Bool, true, false, cond, ℕ, ℤ, pos, ◌+◌, ◌-◌, ◌≤◌, List, [], ◌∷◌, ◌++◌, drop, length, take, Result, Ok, Err, IfOk}
+use Rattle.std.proofs.Common.{◌≡◌, ◌∙◌, refl, sym, ap, subst, arith, Bool, true, false, cond, ℕ, ℤ, pos, ◌+◌, ◌-◌, ◌≤◌, List, [], ◌∷◌, ◌++◌, drop, length, take, Ok}
 use Rattle.std.specs.Arc.{arc_value}
-use Rattle.std.specs.declared.alloc.AllocError.{AllocError}
 use Rattle.std.specs.declared.alloc.Global.{Global}
 use Rattle.std.specs.declared.sync.Arc.{Arc}
-use Rattle.std.proofs.lemmas.List.{drop_all, drop-append-le, drop-take, length-append, length-take-le, take-append-drop, take-append-le, take-take, take_rest}
+use Rattle.std.proofs.lemmas.List.{drop_all, drop-append-le, drop-take, length-append, take-append-drop, take-append-le, take-take, take_all, take_rest}
 use Rattle.std.proofs.lemmas.List.Elements.{All-drop, All-push, All-take}
 use Rattle.std.proofs.lemmas.List.Sums.{fold-append}
 use Rattle.cell_store.specs.declared.entry.Entry.{Entry}
 use Rattle.cell_store.specs.Entries.{after_writes, with_write}
-use Rattle.cell_store.specs.StoreLimit.{most_cells}
 use Rattle.cell_values.specs.Reading.{value_on}
 use Rattle.cell_versions.specs.Versions.{AreLeafWrites, NumberedVersion}
 use Rattle.cube_space.specs.Cells.{IsCell, IsSpace, is_leaf_cell, size_of}
@@ -24,7 +22,6 @@ use Rattle.rule_model.specs.System.{system_of}
 use Rattle.cell_reader.specs.FedCount.{fed_count}
 use Rattle.cell_reader.specs.Limits.{IsLimitAnswer, IsWithinLimits}
 use Rattle.cell_reader.specs.Inside.After.{HasFirst, IsAfter, IsAhead, MayWait}
-use Rattle.cell_reader.specs.declared.mark.Mark.{Mark}
 use Rattle.cell_reader.specs.declared.room.Room.{Room}
 use Rattle.cell_reader.specs.declared.work.Work.{Work}
 use Rattle.cell_reader.proofs.Limits.{within-answers}
@@ -71,12 +68,19 @@ pub first_either : (opening version : NumberedVersion) (ws more : List (ℕ × �
 first_either opening version ws more made first true = first_more opening version ws more made first
 first_either opening version ws more made first false = first
 
--- and so are those of fewer writes
-pub first_of_fewer : (opening version : NumberedVersion) (ws : List (ℕ × ℤ)) (count : ℕ) → count ≤ length ws → IsAfter opening (take count ws) version.model version.stored → HasFirst opening (take count ws) version count
-first_of_fewer opening version ws count fewer after =
+-- all are there, and none waits
+pub settled-ahead : (opening latest : Arc NumberedVersion Global) (ws : List (ℕ × ℤ)) (made : ℕ) (room : Room) → made ≡ length ws
+    → IsAfter (arc_value opening) ws (arc_value latest).model (arc_value latest).stored → MayWait (arc_value latest) [] room → IsAhead opening latest ws made room
+settled-ahead opening latest ws made room all after waiting =
+    let front : take made ws ≡ ws = take_all made ws (omega (arith, all)) in
+    let none : drop made ws ≡ [] = drop_all made ws (omega (arith, all)) in
     record {
-      made_first = omega (arith, length-take-le count ws fewer);
-      after = subst (λ (front : List (ℕ × ℤ)). IsAfter opening front version.model version.stored) (sym (take-take count count ws (omega arith))) after;
+      first = record {
+        made_first = omega (arith, all);
+        after = subst (λ (front : List (ℕ × ℤ)). IsAfter (arc_value opening) front (arc_value latest).model (arc_value latest).stored) (sym front) after;
+      };
+      leaves = after.leaves;
+      waiting = rw none waiting;
     }
 
 -- the first so many writes, by what a version has of them
@@ -106,12 +110,6 @@ module _ (opening version : NumberedVersion) (ws : List (ℕ × ℤ)) (made coun
       subst (λ (m : BoundModel). IsWithinLimits m (after_writes version.stored next_writes)) (sym first_count.same)
       (subst (λ (es : List Entry). IsWithinLimits opening.model es) (sym first_count.after) within)
 
--- what a mark of a version has
-pub mark_has : (opening version : NumberedVersion) (ws : List (ℕ × ℤ)) (made : ℕ) → HasFirst opening ws version made → (result : Result Mark AllocError)
-    → IfOk result (λ (mark : Mark). arc_value mark.version ≡ version) → IfOk result (λ (mark : Mark). mark.made ≡ made) → IfOk result (λ (mark : Mark). HasFirst opening ws (arc_value mark.version) mark.made)
-mark_has opening version ws made has (Ok mark) is first = rw (is, first) has
-mark_has opening version ws made has (Err fault) is first = tt
-
 module _ (opening latest : Arc NumberedVersion Global) (ws : List (ℕ × ℤ)) (made : ℕ) (room : Room) (ahead : IsAhead opening latest ws made room) where
   abbrev now : NumberedVersion
   now = arc_value latest
@@ -131,17 +129,6 @@ module _ (opening latest : Arc NumberedVersion Global) (ws : List (ℕ × ℤ)) 
         first = first_more (arc_value opening) now ws ((cell, number) ∷ []) made ahead.first;
         leaves = All-push (IsLeafWrite (arc_value opening).model.space) ws (cell, number) ahead.leaves (own, leaf);
         waiting = rw later waiting;
-      }
-
-  -- only the first so many are left, and none waits
-  pub only-first : (version : Arc NumberedVersion Global) (count : ℕ) (left : Room) → count ≤ length ws
-      → IsAfter (arc_value opening) (take count ws) (arc_value version).model (arc_value version).stored → MayWait (arc_value version) [] left → IsAhead opening version (take count ws) count left
-  only-first version count left fewer after waiting =
-      let none : drop count (take count ws) ≡ [] = drop_all count (take count ws) (omega (arith, length-take-le count ws fewer)) in
-      record {
-        first = first_of_fewer (arc_value opening) (arc_value version) ws count fewer after;
-        leaves = All-take (IsLeafWrite (arc_value opening).model.space) count ws ahead.leaves;
-        waiting = rw none waiting;
       }
 
   -- few cells are stored, and few are fed
