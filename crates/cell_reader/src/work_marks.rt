@@ -1,6 +1,8 @@
-ghost use Rattle.std.specs.Prelude.{◌≡◌, length, take, IfOk, OnOk};
+ghost use Rattle.std.specs.Prelude.{◌≡◌, ◌≤◌, length, take, IfOk, OnOk};
+ghost use Rattle.std.specs.Arc.{arc_value};
 ghost use Rattle.cell_reader.specs.Limits.{IsWithinLimits};
 ghost use Rattle.cell_reader.specs.Works.{opening_of, stored_after, writes_of};
+ghost use Rattle.cell_reader.specs.Inside.After.{HasFirst, IsAfter};
 
 use crate::mark::Mark;
 use crate::next_snapshot::version_within;
@@ -19,17 +21,13 @@ impl Work {
         ensures writes { writes_of self.new ≡ writes_of self.old }
     {
         if self.marked.made != self.made {
-            let version = Arc::try_clone(&self.latest)?;
-            self.marked = Mark {
-                version,
-                made: self.made,
-            };
+            self.marked = Mark::of(&self.latest, self.made)?;
         }
         Ok(self.written.len())
     }
 
-    /// Takes back all writes but the first so many, which pass no limit. It costs what was written since the mark, where
-    /// no fewer writes were marked than stay.
+    /// Takes back all writes but the first so many, which pass no limit. It costs what was written since the mark,
+    /// where no fewer writes were marked than stay.
     pub fn back(&mut self, alloc: Global, count: usize) -> Result<(), AllocError>
         requires within { IsWithinLimits (opening_of self.old).model
             (stored_after self.old (take count (writes_of self.old))) }
@@ -41,14 +39,11 @@ impl Work {
         }
         let first = self.first_of(count)?;
         let version = self.with_writes(alloc, first, count)?;
-        let marked = Arc::try_clone(&version)?;
+        let marked = Mark::of(&version, count)?;
         let room = room_of(&version);
         self.numbers = None;
         self.memo = None;
-        self.marked = Mark {
-            version: marked,
-            made: count,
-        };
+        self.marked = marked;
         self.latest = version;
         self.made = count;
         self.room = room;
@@ -57,16 +52,18 @@ impl Work {
     }
 
     // The latest version that has none but the first so many writes.
-    fn first_of(&self, count: usize) -> Result<Mark, AllocError> {
-        let (version, made) = if self.made <= count {
-            (&self.latest, self.made)
+    fn first_of(&self, count: usize) -> Result<Mark, AllocError>
+        ensures few { IfOk result (λ first. first.made ≤ count) }
+        ensures first { IfOk result (λ first.
+            HasFirst (opening_of self.now) (writes_of self.now) (arc_value first.version) first.made) }
+    {
+        if self.made <= count {
+            Mark::of(&self.latest, self.made)
         } else if self.marked.made <= count {
-            (&self.marked.version, self.marked.made)
+            Mark::of(&self.marked.version, self.marked.made)
         } else {
-            (&self.opening, 0)
-        };
-        let version = Arc::try_clone(version)?;
-        Ok(Mark { version, made })
+            Mark::of(&self.opening, 0)
+        }
     }
 
     // The version that goes on from there and has the first so many writes.
@@ -75,12 +72,21 @@ impl Work {
         alloc: Global,
         first: Mark,
         count: usize,
-    ) -> Result<Arc<Version, Global>, AllocError> {
+    ) -> Result<Arc<Version, Global>, AllocError>
+        requires first { HasFirst (opening_of self.now) (writes_of self.now) (arc_value first.version) first.made }
+        requires few { first.made ≤ count }
+        requires count { count ≤ length (writes_of self.now) }
+        requires within { IsWithinLimits (opening_of self.now).model
+            (stored_after self.now (take count (writes_of self.now))) }
+        ensures { IfOk result (λ version. let after = arc_value version in
+            IsAfter (opening_of self.now) (take count (writes_of self.now)) after.model after.stored) }
+    {
         let more = &self.written[first.made..count];
         if more.is_empty() {
             return Ok(first.version);
         }
         let next = version_within(alloc, &first.version, more)?;
-        Arc::new(alloc, next)
+        let version = Arc::new(alloc, next)?;
+        Ok(version)
     }
 }

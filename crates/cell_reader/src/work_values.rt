@@ -39,7 +39,7 @@ impl Work {
         let room = room_of(&snapshot.version);
         let opening = Arc::try_clone(&snapshot.version)?;
         let latest = Arc::try_clone(&snapshot.version)?;
-        let version = Arc::try_clone(&snapshot.version)?;
+        let marked = Mark::of(&snapshot.version, 0)?;
         let memo = snapshot.memo.share()?;
         Ok(Work {
             opening,
@@ -49,7 +49,7 @@ impl Work {
             made: 0,
             room,
             numbers: None,
-            marked: Mark { version, made: 0 },
+            marked,
         })
     }
 

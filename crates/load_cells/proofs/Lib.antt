@@ -1,2 +1,3 @@
+pub mod PassedLimits
 pub mod Texts
 pub mod ZeroWrites

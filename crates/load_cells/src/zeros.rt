@@ -28,7 +28,8 @@ fn zero_one(alloc: Global, work: &mut Work, cell: u64) -> Result<(), AllocError>
     requires leaf { is_leaf_cell (opening_of work.old).model.space cell ≡ true }
     ensures opening { opening_of work.new ≡ opening_of work.old }
     ensures written { let opening = opening_of work.old in OnOk result ((cells : List ℕ)
-        → with_zeros (store_of opening.model opening.stored) (writes_of work.old) (open_among opening.model (cell ∷ cells))
+        → with_zeros (store_of opening.model opening.stored) (writes_of work.old)
+        (open_among opening.model (cell ∷ cells))
         ≡ with_zeros (store_of opening.model opening.stored) (writes_of work.new) (open_among opening.model cells)) }
 {
     match why_closed(work.model(), cell) {

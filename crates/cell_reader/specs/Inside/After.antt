@@ -16,7 +16,6 @@ use Rattle.memo_cells.specs.Shared.{version_kept}
 use Rattle.memo_cells.specs.Values.{cell_value}
 use Rattle.rule_model.specs.BoundModel.{BoundModel}
 use Rattle.cell_reader.specs.FedCount.{fed_count}
-use Rattle.cell_reader.specs.declared.mark.Mark.{Mark}
 use Rattle.cell_reader.specs.declared.room.Room.{Room}
 
 -- what these writes have made of the version that the work began with
@@ -31,19 +30,18 @@ pub record MayWait (version : NumberedVersion) (writes : List (ℕ × ℤ)) (roo
   pub few_stored : length (after_writes version.stored writes) + room.stored ≤ most_cells
   pub few_fed : fed_count version.model (after_writes version.stored writes) + room.fed ≤ most_fed
 
--- the latest version has the first so many writes, and the others wait
+-- a version has the first so many of these writes
+pub record HasFirst (opening : NumberedVersion) (writes : List (ℕ × ℤ)) (version : NumberedVersion) (made : ℕ)
+    : Type 0 where
+  pub made_first : made ≤ length writes
+  pub after : IsAfter opening (take made writes) version.model version.stored
+
+-- so has the latest version, and the other writes wait
 pub record IsAhead (opening latest : Arc NumberedVersion Global) (writes : List (ℕ × ℤ)) (made : ℕ)
     (room : Room) : Type 0 where
-  pub made_first : made ≤ length writes
+  pub first : HasFirst (arc_value opening) writes (arc_value latest) made
+  pub leaves : AreLeafWrites (arc_value opening).model.space writes
   pub waiting : MayWait (arc_value latest) (drop made writes) room
-  pub all : IsAfter (arc_value opening) writes (arc_value latest).model
-      (after_writes (arc_value latest).stored (drop made writes))
-
--- a mark has the version with the first so many of these writes
-pub record HasFirst (opening : NumberedVersion) (writes : List (ℕ × ℤ)) (mark : Mark) : Type 0 where
-  pub made_first : mark.made ≤ length writes
-  pub first : let version = arc_value mark.version in
-      IsAfter opening (take mark.made writes) version.model version.stored
 
 -- the last numbers of these writes, by cell, where they are kept
 abbrev pub AreLast : List (ℕ × ℤ) → Option (BTreeMap ℕ ℤ) → Type 0

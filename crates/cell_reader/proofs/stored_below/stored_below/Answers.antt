@@ -1,4 +1,4 @@
-use Rattle.std.proofs.Common.{◌≡◌, ◌∙◌, ap, ℕ, ℤ, List, [], ◌++◌, map, sym, subst, All}
+use Rattle.std.proofs.Common.{◌≡◌, ◌∙◌, ap, ℕ, ℤ, List, [], ◌++◌, map}
 use Rattle.cell_store.specs.Entries.{cells_of}
 use Rattle.sparse_sum.specs.Live.{live_below}
 use Rattle.sparse_sum.specs.Walking.{Progress, left}

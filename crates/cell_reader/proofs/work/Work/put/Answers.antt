@@ -7,7 +7,7 @@ use Rattle.cell_versions.specs.Versions.{NumberedVersion}
 use Rattle.cube_space.specs.Cells.{IsCell, is_leaf_cell}
 use Rattle.cell_reader.specs.Inside.After.{IsAfter, IsAhead}
 use Rattle.cell_reader.specs.Works.{opening_of}
-use Rattle.cell_reader.proofs.Works.{ahead_answers, ahead_either, less-room, more-after, waits-behind}
+use Rattle.cell_reader.proofs.Works.{ahead_answers, ahead_either, first_either, less-room, more-after, waits-behind}
 use Rattle.cell_reader.proofs.LastNumbers.{last-more}
 use Rattle.cell_reader.proofs.work.Work.put.Goals as goal
 
@@ -18,10 +18,16 @@ invariant_of-self-in-Some-clause-ahead c =
     waits-behind work c.deref-2.result.now c.deref.result.now c.in-Some.room c.args.cell c.args.number c.deref-2.ensures c.deref.ensures.value c.requires.cell c.requires.leaf c.in-Some.ensures.waits in
     rw c.extend_from_slice.ensures.items (ahead_either work.opening work.latest work.written.items (work.written.items ++ (c.args.cell, c.args.number) ∷ []) work.made c.in-Some.room (less-room work.opening work.latest work.written.items work.made work.room work.ahead c.in-Some.room c.in-Some.ensures.less.0 c.in-Some.ensures.less.1) more (is_ok c.extend_from_slice.result))
 
+pub invariant_of-self-in-Some-clause-first : goal.invariant_of-self-in-Some-clause-first
+invariant_of-self-in-Some-clause-first c =
+    let work = c.args.self.now in
+    rw c.extend_from_slice.ensures.items
+    (first_either (arc_value work.opening) (arc_value work.marked.version) work.written.items ((c.args.cell, c.args.number) ∷ []) work.marked.made work.first (is_ok c.extend_from_slice.result))
+
 pub invariant_of-self-in-Some-clause-last : goal.invariant_of-self-in-Some-clause-last
 invariant_of-self-in-Some-clause-last c =
     let work = c.args.self.now in
-    last-more work.written.items c.extend_from_slice.new.self.items work.made c.args.cell c.args.number work.numbers c.take.result c.in_ok-numbers.numbers work.ahead.made_first c.in_ok-extend_from_slice.ensures.items c.take.ensures.value
+    last-more work.written.items c.extend_from_slice.new.self.items work.made c.args.cell c.args.number work.numbers c.take.result c.in_ok-numbers.numbers work.ahead.first.made_first c.in_ok-extend_from_slice.ensures.items c.take.ensures.value
     c.in_ok-numbers.ensures.last work.last
 
 -- what waits may wait

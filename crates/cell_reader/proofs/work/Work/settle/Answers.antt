@@ -5,6 +5,7 @@ use Rattle.cell_store.specs.Entries.{after_writes}
 use Rattle.cell_store.specs.StoreLimit.{most_cells}
 use Rattle.cell_versions.specs.Versions.{NumberedVersion}
 use Rattle.cell_reader.specs.Limits.{IsWithinLimits}
+use Rattle.cell_reader.proofs.Works.{all_after}
 use Rattle.cell_reader.proofs.work.Work.settle.Goals as goal
 
 -- what waits passes neither limit
@@ -29,4 +30,4 @@ go_on-requires c =
     let stored : c.in_ok-next.next.stored ≡ after_writes latest.stored waiting =
     c.in_ok-next.ensures.stored ∙ (ap (λ (version : NumberedVersion). after_writes version.stored (take (length c.deref.result.now - work.made) (drop work.made c.deref.result.now))) c.deref-2.ensures
     ∙ ap (after_writes latest.stored) slice) in
-    rw (model, stored, append-nil work.written.items) work.ahead.all
+    rw (model, stored, append-nil work.written.items) (all_after work.opening work.latest work.written.items work.made work.room work.ahead)
