@@ -1,6 +1,6 @@
 -- A load: its sections, and how it ends.
-use Rattle.std.specs.Prelude.{ℕ, nat_lt, ◌+◌, Bool, true, false, ◌&&◌, List, [], ◌∷◌, ◌++◌, length, map, Option, option_map}
-use Rattle.std.specs.Prelude.{if◌then◌else◌}
+use Rattle.std.specs.Prelude.{ℕ, nat_lt, ◌+◌, Bool, true, false, ◌&&◌, if◌then◌else◌}
+use Rattle.std.specs.Prelude.{List, [], ◌∷◌, ◌++◌, length, map, Option, option_map}
 use Rattle.cube_fixed.specs.declared.value.Value.TheVariants.{Num}
 use Rattle.user_text.specs.UserText.{set_to}
 use Rattle.user_text.specs.declared.command.ParamText.{ParamText}
@@ -50,7 +50,8 @@ passed_over reason before stopped = record {
   variables = before.variables;
   left = stopped.left;
   last = stopped.last;
-  rejects = before.rejects ++ record { row = stopped.last.row; statement = stopped.last.statement; reason = reason } ∷ [];
+  rejects = before.rejects
+      ++ record { row = stopped.last.row; statement = stopped.last.statement; reason = reason } ∷ [];
 }
 
 -- A record was begun with this progress and these writes, and ended so. Where it was stopped for a reason that lies in

@@ -51,8 +51,8 @@ fn kept_of<C: WorkCells>(
     run: &Run,
     cells: &mut C,
 ) -> Result<Result<Kept, LoadReason>, AllocError>
-    ensures value { IfOk result (λ answer. answer
-        ≡ values.taken meaning.as_kept (given term.now (C.store cells.old) here.now run.now.progress (C.writes cells.old))) }
+    ensures value { let datum = given term.now (C.store cells.old) here.now run.now.progress (C.writes cells.old) in
+        IfOk result (λ answer. answer ≡ values.taken meaning.as_kept datum) }
     ensures store { C.store cells.new ≡ C.store cells.old }
     ensures writes { C.writes cells.new ≡ C.writes cells.old }
 {

@@ -1,8 +1,8 @@
 //! The run of a load script.
 //!
 //! Read in this order: [`run`], which runs a script over records; [`WorkCells`], the cells that it reads and writes;
-//! [`Ran`] and [`LoadReason`], how it ends, and [`Reject`], a record that it passed over. `specs/Load.antt` says what a load is, `specs/Meaning.antt` what its
-//! statements do, and `script_values` what its expressions give.
+//! [`Ran`] and [`LoadReason`], how it ends, and [`Reject`], a record that it passed over. `specs/Load.antt` says what a
+//! load is, `specs/Meaning.antt` what its statements do, and `script_values` what its expressions give.
 #![tactic(auto)]
 
 mod change;

@@ -17,7 +17,8 @@ use std::alloc::{AllocError, Global};
 fn begin(statement: &Statement, here: &Here<'_>, run: &mut Run) -> bool
     ensures begun { Begins result run.new.progress ≡ begun statement.now here.now run.old.progress }
     ensures limit { IsFalse result → (store : Store) (writes : List Write) →
-        deed_of statement.now store here.now run.old.progress writes ≡ stopped reason_of.StepLimit run.new.progress writes }
+        deed_of statement.now store here.now run.old.progress writes
+        ≡ stopped reason_of.StepLimit run.new.progress writes }
     ensures left { run.new.progress.left ≤ run.old.progress.left }
     ensures held { run.new.held ≡ run.old.held }
 {

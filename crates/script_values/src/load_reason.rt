@@ -1,4 +1,4 @@
-/// Why a load ends, and none of its writes is kept.
+/// Why a load ends and keeps none of its writes, or why it passes over a record.
 #[derive(Clone, Copy, Debug, PartialEq, Eq)]
 pub enum LoadReason {
     /// The cube or an element is unknown, or the count of elements is wrong.

@@ -1,5 +1,6 @@
 -- What a load keeps while it runs.
-use Rattle.std.specs.Prelude.{◌≡◌, ◌<◌, ◌==◌, ℕ, Bool, true, false, List, [], ◌∷◌, length, All, Option, slice_set, slice_index_or}
+use Rattle.std.specs.Prelude.{◌≡◌, ◌<◌, ◌==◌, ℕ, Bool, true, false, Option}
+use Rattle.std.specs.Prelude.{List, [], ◌∷◌, length, All, slice_set, slice_index_or}
 use Rattle.std.specs.List.{list_any}
 use Rattle.script_values.specs.declared.kept.Kept.{Kept}
 use Rattle.script_run.specs.Setting.{Progress}
