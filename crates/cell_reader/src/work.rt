@@ -4,7 +4,7 @@ ghost use Rattle.std.specs.Coded.{codes};
 ghost use Rattle.std.proofs.Props.{props};
 ghost use Rattle.memo_cells.specs.contracts.version.Version as kept;
 ghost use Rattle.rule_laws.specs.contracts.formula.Formula as formula;
-ghost use Rattle.cell_reader.specs.Inside.After.{AreLast, HasFirst, HasValues, IsAhead};
+ghost use Rattle.cell_reader.specs.Inside.After.{AreLast, HasValues, IsAhead, IsMark};
 
 use crate::mark::Mark;
 use crate::room::Room;
@@ -40,6 +40,6 @@ pub struct Work {
     pub(crate) marked: Mark,
     ghost ahead: { IsAhead opening latest written.items made room } by { Prim.hlevel (codes, formula.the_row.coded) },
     ghost last: { AreLast (drop made written.items) numbers } by { Prim.hlevel (codes, props) },
-    ghost first: { HasFirst (arc_value opening) written.items (arc_value marked.version) marked.made } by { Prim.hlevel (codes, formula.the_row.coded) },
+    ghost first: { IsMark (arc_value opening) written.items marked } by { Prim.hlevel (codes, formula.the_row.coded) },
     ghost values: { HasValues (arc_value latest) memo } by { Prim.hlevel (codes, kept.the_row.coded) },
 }

@@ -2,7 +2,7 @@ ghost use Rattle.std.specs.Prelude.{◌≡◌, ◌≤◌, length, take, IfOk, On
 ghost use Rattle.std.specs.Arc.{arc_value};
 ghost use Rattle.cell_reader.specs.Limits.{IsWithinLimits};
 ghost use Rattle.cell_reader.specs.Works.{opening_of, stored_after, writes_of};
-ghost use Rattle.cell_reader.specs.Inside.After.{HasFirst, IsAfter};
+ghost use Rattle.cell_reader.specs.Inside.After.{IsAfter, IsMark};
 
 use crate::mark::Mark;
 use crate::next_snapshot::version_within;
@@ -54,8 +54,7 @@ impl Work {
     // The latest version that has none but the first so many writes.
     fn first_of(&self, count: usize) -> Result<Mark, AllocError>
         ensures few { IfOk result (λ first. first.made ≤ count) }
-        ensures first { IfOk result (λ first.
-            HasFirst (opening_of self.now) (writes_of self.now) (arc_value first.version) first.made) }
+        ensures first { IfOk result (IsMark (opening_of self.now) (writes_of self.now)) }
     {
         if self.made <= count {
             Mark::of(&self.latest, self.made)
@@ -73,7 +72,7 @@ impl Work {
         first: Mark,
         count: usize,
     ) -> Result<Arc<Version, Global>, AllocError>
-        requires first { HasFirst (opening_of self.now) (writes_of self.now) (arc_value first.version) first.made }
+        requires first { IsMark (opening_of self.now) (writes_of self.now) first }
         requires few { first.made ≤ count }
         requires count { count ≤ length (writes_of self.now) }
         requires within { IsWithinLimits (opening_of self.now).model

@@ -16,6 +16,7 @@ use Rattle.memo_cells.specs.Shared.{version_kept}
 use Rattle.memo_cells.specs.Values.{cell_value}
 use Rattle.rule_model.specs.BoundModel.{BoundModel}
 use Rattle.cell_reader.specs.FedCount.{fed_count}
+use Rattle.cell_reader.specs.declared.mark.Mark.{Mark}
 use Rattle.cell_reader.specs.declared.room.Room.{Room}
 
 -- what these writes have made of the version that the work began with
@@ -36,7 +37,11 @@ pub record HasFirst (opening : NumberedVersion) (writes : List (ℕ × ℤ)) (ve
   pub made_first : made ≤ length writes
   pub after : IsAfter opening (take made writes) version.model version.stored
 
--- so has the latest version, and the other writes wait
+-- a mark has such a version
+abbrev pub IsMark : NumberedVersion → List (ℕ × ℤ) → Mark → Type 0
+IsMark opening writes mark = HasFirst opening writes (arc_value mark.version) mark.made
+
+-- the latest version has the first so many writes, and the others wait
 pub record IsAhead (opening latest : Arc NumberedVersion Global) (writes : List (ℕ × ℤ)) (made : ℕ)
     (room : Room) : Type 0 where
   pub first : HasFirst (arc_value opening) writes (arc_value latest) made
