@@ -55,5 +55,5 @@ pub fn a_leaf_part_keeps_its_values()
         → in_area space area cell ≡ true → ((place : ℕ) → others.own place ≡ element_at space cell place)
         → part_of space cube area.sets tree ≡ Ok settled
         → (plain : Formula) × (part_of space cube [] tree ≡ Ok plain)
-            × (formula_value named others settled ≡ formula_value named others plain) }
+        × (formula_value named others settled ≡ formula_value named others plain) }
 {}

@@ -124,16 +124,41 @@ pub fn value_of(
         Tree::Continue => alone(Formula::Continue, at),
         Tree::Call(word, arguments) => {
             let function = function_of(word.as_slice());
-            call_of(alloc, space, maps, cube, sets, at, function, arguments.as_slice())
+            call_of(
+                alloc,
+                space,
+                maps,
+                cube,
+                sets,
+                at,
+                function,
+                arguments.as_slice(),
+            )
         }
         Tree::Minus(inner) => {
-            let inner = value_of(alloc, space, maps, cube, sets, Standing::Within, inner.get())?;
+            let inner = value_of(
+                alloc,
+                space,
+                maps,
+                cube,
+                sets,
+                Standing::Within,
+                inner.get(),
+            )?;
             unary(alloc, Fun::Minus, inner)
         }
         Tree::Binary(op, left, right) => match operator_of(*op) {
             Operator::Operation(op) => {
                 let left = value_of(alloc, space, maps, cube, sets, Standing::Within, left.get())?;
-                let right = value_of(alloc, space, maps, cube, sets, Standing::Within, right.get())?;
+                let right = value_of(
+                    alloc,
+                    space,
+                    maps,
+                    cube,
+                    sets,
+                    Standing::Within,
+                    right.get(),
+                )?;
                 binary(alloc, op, left, right)
             }
             _ => Err(BindCause::Unsupported),
@@ -169,7 +194,15 @@ pub fn truth_of(
             Operator::Operation(_) => Err(BindCause::Unsupported),
             Operator::Comparison(rel) => {
                 let left = value_of(alloc, space, maps, cube, sets, Standing::Within, left.get())?;
-                let right = value_of(alloc, space, maps, cube, sets, Standing::Within, right.get())?;
+                let right = value_of(
+                    alloc,
+                    space,
+                    maps,
+                    cube,
+                    sets,
+                    Standing::Within,
+                    right.get(),
+                )?;
                 Ok(comparison(space, cube, sets, rel, left, right))
             }
             Operator::Texts(rel) => {

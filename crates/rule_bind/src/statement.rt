@@ -51,16 +51,40 @@ fn parts_of(
             Ok((Some(leaf), None))
         }
         BodyText::Cons(cons) => {
-            let cons = value_of(alloc, space, maps, cube, &[], Standing::ConsolidatedPart, cons)?;
+            let cons = value_of(
+                alloc,
+                space,
+                maps,
+                cube,
+                &[],
+                Standing::ConsolidatedPart,
+                cons,
+            )?;
             Ok((None, Some(cons)))
         }
         BodyText::LeafCons(leaf, cons) => {
             let leaf = value_of(alloc, space, maps, cube, sets, Standing::Part, leaf)?;
-            let cons = value_of(alloc, space, maps, cube, &[], Standing::ConsolidatedPart, cons)?;
+            let cons = value_of(
+                alloc,
+                space,
+                maps,
+                cube,
+                &[],
+                Standing::ConsolidatedPart,
+                cons,
+            )?;
             Ok((Some(leaf), Some(cons)))
         }
         BodyText::ConsLeaf(cons, leaf) => {
-            let cons = value_of(alloc, space, maps, cube, &[], Standing::ConsolidatedPart, cons)?;
+            let cons = value_of(
+                alloc,
+                space,
+                maps,
+                cube,
+                &[],
+                Standing::ConsolidatedPart,
+                cons,
+            )?;
             let leaf = value_of(alloc, space, maps, cube, sets, Standing::Part, leaf)?;
             Ok((Some(leaf), Some(cons)))
         }
