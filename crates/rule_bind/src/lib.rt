@@ -8,8 +8,8 @@
 //! comparisons are settled.
 //!
 //! A number of the cell's own element is bound to a table. In a part for leaf cells, a comparison of a table with a
-//! number may be the same for all leaf elements that the statement's area has in the table's dimension: then it is bound
-//! to a comparison of two numbers, so that the zero test knows it.
+//! number may be the same for all leaf elements that the statement's area has in the table's dimension: then it is
+//! bound to a comparison of two numbers, so that the zero test knows it.
 #![tactic(auto)]
 
 pub use bind_areas::BindCause;

@@ -25,8 +25,8 @@ fn form_of(body: &BodyText) -> Form
     }
 }
 
-// The parts of a statement, for leaf cells and for consolidated cells. A formula for both is bound once for each: what its
-// area has in each dimension is told of leaf cells alone.
+// The parts of a statement, for leaf cells and for consolidated cells. A formula for both is bound once for each: what
+// its area has in each dimension is told of leaf cells alone.
 fn parts_of(
     alloc: Global,
     space: &Space,
