@@ -1,4 +1,5 @@
-ghost use Rattle.std.specs.Prelude.{◌≡◌, ◌<◌, length};
+ghost use Rattle.std.specs.Prelude.{◌≡◌, ◌<◌, length, find};
+ghost use Rattle.std.specs.List.{list_all, range_with_len};
 ghost use Rattle.rule_bind.specs.Sureness.{is_leaf_of, first_leaf, holds, is_alike, are_alike, number_in, number_at};
 ghost use Rattle.rule_bind.specs.Sureness.{table_side, test_with, side, comparison};
 
@@ -24,6 +25,13 @@ fn is_leaf_of(dim: &Dimension, element: u32) -> bool
     element < dim.len() && dim.is_leaf(element)
 }
 
+// The first leaf among so many elements of a dimension.
+fn first_leaf_below(dim: &Dimension, count: u32) -> Option<u32>
+    ensures { result ≡ find (is_leaf_of dim.now) (range_with_len 0 count) }
+{
+    (0..count).find(|element| is_leaf_of(dim, *element))
+}
+
 // The first leaf element of a set.
 fn first_leaf(dim: &Dimension, set: &Option<ListOf<u32>>) -> Option<u32>
     ensures { result ≡ first_leaf dim.now set.now }
@@ -34,7 +42,7 @@ fn first_leaf(dim: &Dimension, set: &Option<ListOf<u32>>) -> Option<u32>
             .iter()
             .copied()
             .find(|element| is_leaf_of(dim, *element)),
-        None => (0..dim.len()).find(|element| is_leaf_of(dim, *element)),
+        None => first_leaf_below(dim, dim.len()),
     }
 }
 
@@ -58,7 +66,20 @@ fn is_alike(dim: &Dimension, test: Test, table: &ElementTable, truth: bool, elem
     !is_leaf_of(dim, element) || holds(test, table.get(element as usize)) == truth
 }
 
-// Whether a comparison is the same for all leaf elements of a set as for this number. It ends with the first other one.
+// Whether a comparison has this truth for each leaf among so many elements. It ends with the first that is otherwise.
+fn are_alike_below(
+    dim: &Dimension,
+    test: Test,
+    table: &ElementTable,
+    truth: bool,
+    count: u32,
+) -> bool
+    ensures { result ≡ list_all (is_alike dim.now test table.now truth) (range_with_len 0 count) }
+{
+    (0..count).all(|element| is_alike(dim, test, table, truth, element))
+}
+
+// Whether a comparison is the same for all leaf elements of a set as for this number.
 fn are_alike(
     dim: &Dimension,
     set: &Option<ListOf<u32>>,
@@ -74,7 +95,7 @@ fn are_alike(
             .as_slice()
             .iter()
             .all(|element| is_alike(dim, test, table, truth, *element)),
-        None => (0..dim.len()).all(|element| is_alike(dim, test, table, truth, element)),
+        None => are_alike_below(dim, test, table, truth, dim.len()),
     }
 }
 
