@@ -1,5 +1,5 @@
 -- What is counted of a formula that is bound: at most one for each node of its text.
-use Rattle.std.proofs.Common.{◌≡◌, ◌≤◌, ◌+◌, ℕ, ℤ, List, [], ◌∷◌, map, Ok, sym, subst, codes, bytes_eq, arith}
+use Rattle.std.proofs.Common.{◌≡◌, ◌≤◌, ◌+◌, ℕ, ℤ, List, [], ◌∷◌, map, Ok, sym, subst, true, false, codes, bytes_eq, arith}
 use Rattle.std.specs.List.{sum}
 use Rattle.cube_space.specs.Layout.{Layout}
 use Rattle.rule_laws.specs.declared.reference.Reference.{Reference}

@@ -1,5 +1,5 @@
 -- A part for leaf cells as it is bound gives in them what it gives as it is written.
-use Rattle.std.proofs.Common.{◌≡◌, refl, sym, ap, ap₂, subst, ◌∙◌, ℕ, List, [], ◌∷◌, map, Result, Ok, Err, Bool, ◌&&◌, ◌||◌, not, if◌then◌else◌}
+use Rattle.std.proofs.Common.{◌≡◌, refl, sym, ap, ap₂, subst, ◌∙◌, ℕ, List, [], ◌∷◌, map, Result, Ok, Err, Bool, codes, bytes_eq, ◌&&◌, ◌||◌, not, if◌then◌else◌}
 use Rattle.cube_fixed.specs.declared.value.Value.{Value}
 use Rattle.cube_space.specs.Layout.{Layout}
 use Rattle.rule_laws.specs.Meaning.{Others, value_step, truth_step, formula_value, truth_value}
@@ -8,22 +8,21 @@ use Rattle.rule_laws.specs.declared.reference.Reference.{Reference}
 use Rattle.rule_laws.specs.declared.operation.Op.{Op}
 use Rattle.rule_laws.specs.declared.operation.Fun.{Fun}
 use Rattle.rule_laws.specs.declared.operation.Fun.TheVariants as funs
+use Rattle.rule_laws.specs.declared.operation.Op.TheVariants as ops
+use Rattle.rule_laws.specs.declared.operation.Rel.TheVariants as rels
 use Rattle.rule_laws.specs.declared.operation.Rel.{Rel}
 use Rattle.rule_laws.specs.declared.formula.Formula.{Formula}
 use Rattle.rule_laws.specs.declared.formula.Formula.TheVariants as formulas
 use Rattle.rule_laws.specs.declared.formula.Truth.{Truth}
 use Rattle.rule_laws.specs.declared.formula.Truth.TheVariants as truths
 use Rattle.rule_laws.proofs.FormulaFolds.{of-binary, of-unary, of-if, of-and, of-or, of-not}
+use Rattle.rule_tree.specs.declared.tree.TreeOp.{TreeOp}
+use Rattle.rule_tree.specs.declared.tree.TreeOp.TheVariants as signs
 use Rattle.rule_tree.specs.declared.tree.Tree.{Tree, roll-Tree}
 use Rattle.rule_tree.specs.declared.tree.Tree.TheFolds.{map-Tree, ind-Tree}
 use Rattle.rule_tree.specs.declared.tree.Tree.TheOpen.{Tree-F}
 use Rattle.bind_areas.specs.Meaning.{Meaning, ◌>>=◌}
 use Rattle.bind_areas.specs.Areas.{bracket_of}
-use Rattle.bind_arguments.specs.declared.element_function.ElementFunction.TheVariants as functions
-use Rattle.rule_bind.specs.declared.function.Function.{Function}
-use Rattle.rule_bind.specs.declared.function.Function.TheVariants as calls
-use Rattle.rule_bind.specs.declared.operator.Operator.{Operator}
-use Rattle.rule_bind.specs.declared.operator.Operator.TheVariants as operators
 use Rattle.rule_bind.specs.declared.standing.Standing.{Standing}
 use Rattle.rule_bind.specs.declared.standing.Standing.TheVariants.{Part, ConsolidatedPart, Within}
 use Rattle.rule_bind.specs.Functions.{function_of as call_of, operator_of}
@@ -34,6 +33,7 @@ use Rattle.rule_bind.specs.Texts.{Side, side_of, shared_place, compared, texts_t
 use Rattle.rule_bind.specs.Sureness.{Sets, comparison}
 use Rattle.rule_bind.specs.Formulas.{Meanings, Meant, alone, children, unary, binary, choice, choice_call, unary_call, binary_call, children_call, call_value, operator_value, operator_truth, meanings_step, meanings, meant}
 use Rattle.rule_bind.proofs.FormulaFacts.{by_layer, trees_again}
+use Rattle.bind_laws.proofs.FormulaFacts.{either_way}
 use Rattle.bind_laws.proofs.SureFacts.{AreLeavesOf, comparison_holds}
 
 -- two meanings with the same fault, or with what is related
@@ -118,7 +118,7 @@ module _ (space : Layout) (cube : ℕ) (sets : Sets) (named : Reference → Valu
       comparison_holds space cube sets named others leaves rel a b ∙ ap (λ v. comparison_of rel v (gives b)) first ∙ ap (λ v. comparison_of rel (gives x) v) second
       ∙ sym (comparison_holds space cube [] named others none rel x y)
 
-  compare_same : (rel : Rel) (l r m n : Meant) → AreSame l.1 m.1 → AreSame r.1 n.1 → SameTruth (operator_truth space cube sets (operators.Comparison rel) l r) (operator_truth space cube [] (operators.Comparison rel) m n)
+  compare_same : (rel : Rel) (l r m n : Meant) → AreSame l.1 m.1 → AreSame r.1 n.1 → SameTruth (l.1.value Within >>= (λ a. r.1.value Within >>= (λ b. Ok (comparison space cube sets rel a b)))) (m.1.value Within >>= (λ a. n.1.value Within >>= (λ b. Ok (comparison space cube [] rel a b))))
   compare_same rel l r m n left right =
       each_related IsSame IsSameTruth (l.1.value Within) (m.1.value Within) (λ a. r.1.value Within >>= (λ b. Ok (comparison space cube sets rel a b))) (λ a. n.1.value Within >>= (λ b. Ok (comparison space cube [] rel a b))) (left.value Within)
       (λ a x first. each_related IsSame IsSameTruth (r.1.value Within) (n.1.value Within) (λ b. Ok (comparison space cube sets rel a b)) (λ b. Ok (comparison space cube [] rel x b)) (right.value Within)
@@ -138,25 +138,54 @@ module _ (space : Layout) (cube : ℕ) (sets : Sets) (named : Reference → Valu
   or_is p q s t first second =
       of-or Value Bool (value_step named others) truth_step p q ∙ ap (λ x. x || holds q) first ∙ ap (λ x. holds s || x) second ∙ sym (of-or Value Bool (value_step named others) truth_step s t)
 
-  operator_truth_same : (o : Operator) (l r m n : Meant) → l.0 ≡ m.0 → r.0 ≡ n.0 → AreSame l.1 m.1 → AreSame r.1 n.1 → SameTruth (operator_truth space cube sets o l r) (operator_truth space cube [] o m n)
-  operator_truth_same (operators.Comparison rel) l r m n own its left right = compare_same rel l r m n left right
-  operator_truth_same operators.And l r m n own its left right =
+  both_same : (l r m n : Meant) → AreSame l.1 m.1 → AreSame r.1 n.1 → SameTruth (l.1.truth >>= (λ p. r.1.truth >>= (λ q. Ok (truths.And p q)))) (m.1.truth >>= (λ p. n.1.truth >>= (λ q. Ok (truths.And p q))))
+  both_same l r m n left right =
       each_related IsSameTruth IsSameTruth l.1.truth m.1.truth (λ p. r.1.truth >>= (λ q. Ok (truths.And p q))) (λ p. n.1.truth >>= (λ q. Ok (truths.And p q))) left.truth
       (λ p s first. each_related IsSameTruth IsSameTruth r.1.truth n.1.truth (λ q. Ok (truths.And p q)) (λ q. Ok (truths.And s q)) right.truth (λ q t second. and_is p q s t first second))
-  operator_truth_same operators.Or l r m n own its left right =
+
+  either_same : (l r m n : Meant) → AreSame l.1 m.1 → AreSame r.1 n.1 → SameTruth (l.1.truth >>= (λ p. r.1.truth >>= (λ q. Ok (truths.Or p q)))) (m.1.truth >>= (λ p. n.1.truth >>= (λ q. Ok (truths.Or p q))))
+  either_same l r m n left right =
       each_related IsSameTruth IsSameTruth l.1.truth m.1.truth (λ p. r.1.truth >>= (λ q. Ok (truths.Or p q))) (λ p. n.1.truth >>= (λ q. Ok (truths.Or p q))) left.truth
       (λ p s first. each_related IsSameTruth IsSameTruth r.1.truth n.1.truth (λ q. Ok (truths.Or p q)) (λ q. Ok (truths.Or s q)) right.truth (λ q t second. or_is p q s t first second))
-  operator_truth_same (operators.Texts rel) l r m n own its left right =
+
+  texts_alike : (rel : Rel) (l r m n : Meant) → l.0 ≡ m.0 → r.0 ≡ n.0 → SameTruth (texts_truth space cube sets rel l.0 r.0) (texts_truth space cube [] rel m.0 n.0)
+  texts_alike rel l r m n own its =
       subst (λ x. SameTruth (texts_truth space cube sets rel l.0 r.0) (texts_truth space cube [] rel x n.0)) own
       (subst (λ x. SameTruth (texts_truth space cube sets rel l.0 r.0) (texts_truth space cube [] rel l.0 x)) its (texts_same rel l.0 r.0))
-  operator_truth_same (operators.Operation op) l r m n own its left right = refl
 
-  operator_same : (o : Operator) (l r m n : Meant) → AreSame l.1 m.1 → AreSame r.1 n.1 → Same (operator_value o l r) (operator_value o m n)
-  operator_same (operators.Operation op) l r m n left right = binary_same op l r m n left right
-  operator_same (operators.Comparison rel) l r m n left right = refl
-  operator_same (operators.Texts rel) l r m n left right = refl
-  operator_same operators.And l r m n left right = refl
-  operator_same operators.Or l r m n left right = refl
+  operator_truth_same : (o : TreeOp) (l r m n : Meant) → l.0 ≡ m.0 → r.0 ≡ n.0 → AreSame l.1 m.1 → AreSame r.1 n.1 → SameTruth (operator_truth space cube sets (operator_of o) l r) (operator_truth space cube [] (operator_of o) m n)
+  operator_truth_same signs.And l r m n own its left right = both_same l r m n left right
+  operator_truth_same signs.Or l r m n own its left right = either_same l r m n left right
+  operator_truth_same signs.Equal l r m n own its left right = compare_same rels.Equal l r m n left right
+  operator_truth_same signs.Unequal l r m n own its left right = compare_same rels.Unequal l r m n left right
+  operator_truth_same signs.Less l r m n own its left right = compare_same rels.Less l r m n left right
+  operator_truth_same signs.Greater l r m n own its left right = compare_same rels.Greater l r m n left right
+  operator_truth_same signs.AtMost l r m n own its left right = compare_same rels.AtMost l r m n left right
+  operator_truth_same signs.AtLeast l r m n own its left right = compare_same rels.AtLeast l r m n left right
+  operator_truth_same signs.Same l r m n own its left right = texts_alike rels.Equal l r m n own its
+  operator_truth_same signs.Other l r m n own its left right = texts_alike rels.Unequal l r m n own its
+  operator_truth_same signs.Add l r m n own its left right = refl
+  operator_truth_same signs.Sub l r m n own its left right = refl
+  operator_truth_same signs.Mul l r m n own its left right = refl
+  operator_truth_same signs.Div l r m n own its left right = refl
+  operator_truth_same signs.DivSafe l r m n own its left right = refl
+
+  operator_same : (o : TreeOp) (l r m n : Meant) → AreSame l.1 m.1 → AreSame r.1 n.1 → Same (operator_value (operator_of o) l r) (operator_value (operator_of o) m n)
+  operator_same signs.Add l r m n left right = binary_same ops.Add l r m n left right
+  operator_same signs.Sub l r m n left right = binary_same ops.Sub l r m n left right
+  operator_same signs.Mul l r m n left right = binary_same ops.Mul l r m n left right
+  operator_same signs.Div l r m n left right = binary_same ops.Div l r m n left right
+  operator_same signs.DivSafe l r m n left right = binary_same ops.DivSafe l r m n left right
+  operator_same signs.And l r m n left right = refl
+  operator_same signs.Or l r m n left right = refl
+  operator_same signs.Equal l r m n left right = refl
+  operator_same signs.Unequal l r m n left right = refl
+  operator_same signs.Less l r m n left right = refl
+  operator_same signs.Greater l r m n left right = refl
+  operator_same signs.AtMost l r m n left right = refl
+  operator_same signs.AtLeast l r m n left right = refl
+  operator_same signs.Same l r m n left right = refl
+  operator_same signs.Other l r m n left right = refl
 
   abbrev own_meant : Tree → Meant
   own_meant = meant space cube sets
@@ -200,15 +229,32 @@ module _ (space : Layout) (cube : ℕ) (sets : Sets) (named : Reference → Valu
       subst (λ ts. Same (call ts) (call (map (λ m. m.0) (map plain_meant trees)))) (sym (trees_again space cube sets trees))
       (subst (λ ts. Same (call trees) (call ts)) (sym (trees_again space cube [] trees)) (same_formula (call trees)))
 
-  call_same : (at : Standing) (function : Function) (trees : List Tree) → AreSameTrees trees → Same (call_value space cube at function (map own_meant trees)) (call_value space cube at function (map plain_meant trees))
-  call_same at calls.If trees same = choice_call_same at trees same
-  call_same at calls.Db trees same = by_trees (λ ts. db_of space cube ts >>= (λ r. Ok (formulas.Ref r))) trees
-  call_same at calls.Children trees same = children_call_same at trees
-  call_same at (calls.One function) trees same = unary_call_same function trees same
-  call_same at (calls.Two op) trees same = binary_call_same op trees same
-  call_same at (calls.Own function) trees same = by_trees (own_call space cube function) trees
-  call_same at calls.Size trees same = by_trees (size_call space) trees
-  call_same at calls.Other trees same = refl
+  module _ (at : Standing) (trees : List Tree) (same : AreSameTrees trees) where
+    -- what is meant of a call with one of its words
+    call_same : (word : List ℕ) → Same (call_value space cube at (call_of word) (map own_meant trees)) (call_value space cube at (call_of word) (map plain_meant trees))
+    call_same word =
+        either_way (λ function. Same (call_value space cube at function (map own_meant trees)) (call_value space cube at function (map plain_meant trees))) (bytes_eq word (codes "IF")) _ _ (choice_call_same at trees same)
+        (either_way (λ function. Same (call_value space cube at function (map own_meant trees)) (call_value space cube at function (map plain_meant trees))) (bytes_eq word (codes "DB")) _ _ (by_trees (λ ts. db_of space cube ts >>= (λ r. Ok (formulas.Ref r))) trees)
+        (either_way (λ function. Same (call_value space cube at function (map own_meant trees)) (call_value space cube at function (map plain_meant trees))) (bytes_eq word (codes "CONSOLIDATECHILDREN")) _ _ (children_call_same at trees)
+        (either_way (λ function. Same (call_value space cube at function (map own_meant trees)) (call_value space cube at function (map plain_meant trees))) (bytes_eq word (codes "DIMSIZ")) _ _ (by_trees (size_call space) trees)
+        (either_way (λ function. Same (call_value space cube at function (map own_meant trees)) (call_value space cube at function (map plain_meant trees))) (bytes_eq word (codes "ABS")) _ _ (unary_call_same funs.Abs trees same)
+        (either_way (λ function. Same (call_value space cube at function (map own_meant trees)) (call_value space cube at function (map plain_meant trees))) (bytes_eq word (codes "SIGN")) _ _ (unary_call_same funs.Sign trees same)
+        (either_way (λ function. Same (call_value space cube at function (map own_meant trees)) (call_value space cube at function (map plain_meant trees))) (bytes_eq word (codes "INT")) _ _ (unary_call_same funs.Int trees same)
+        (either_way (λ function. Same (call_value space cube at function (map own_meant trees)) (call_value space cube at function (map plain_meant trees))) (bytes_eq word (codes "ROUND")) _ _ (unary_call_same funs.Round trees same)
+        (either_way (λ function. Same (call_value space cube at function (map own_meant trees)) (call_value space cube at function (map plain_meant trees))) (bytes_eq word (codes "TRUNC")) _ _ (unary_call_same funs.Trunc trees same)
+        (either_way (λ function. Same (call_value space cube at function (map own_meant trees)) (call_value space cube at function (map plain_meant trees))) (bytes_eq word (codes "MAX")) _ _ (binary_call_same ops.Max trees same)
+        (either_way (λ function. Same (call_value space cube at function (map own_meant trees)) (call_value space cube at function (map plain_meant trees))) (bytes_eq word (codes "MIN")) _ _ (binary_call_same ops.Min trees same)
+        (either_way (λ function. Same (call_value space cube at function (map own_meant trees)) (call_value space cube at function (map plain_meant trees))) (bytes_eq word (codes "MOD")) _ _ (binary_call_same ops.Mod trees same)
+        (either_way (λ function. Same (call_value space cube at function (map own_meant trees)) (call_value space cube at function (map plain_meant trees))) (bytes_eq word (codes "ROUNDP")) _ _ (binary_call_same ops.RoundTo trees same)
+        (either_way (λ function. Same (call_value space cube at function (map own_meant trees)) (call_value space cube at function (map plain_meant trees))) (bytes_eq word (codes "DIMIX")) _ _ (by_trees (own_call space cube _) trees)
+        (either_way (λ function. Same (call_value space cube at function (map own_meant trees)) (call_value space cube at function (map plain_meant trees))) (bytes_eq word (codes "ELLEV")) _ _ (by_trees (own_call space cube _) trees)
+        (either_way (λ function. Same (call_value space cube at function (map own_meant trees)) (call_value space cube at function (map plain_meant trees))) (bytes_eq word (codes "ELISPAR")) _ _ (by_trees (own_call space cube _) trees)
+        (either_way (λ function. Same (call_value space cube at function (map own_meant trees)) (call_value space cube at function (map plain_meant trees))) (bytes_eq word (codes "ELISANC")) _ _ (by_trees (own_call space cube _) trees)
+        (either_way (λ function. Same (call_value space cube at function (map own_meant trees)) (call_value space cube at function (map plain_meant trees))) (bytes_eq word (codes "ELISCOMP")) _ _ (by_trees (own_call space cube _) trees)
+        (either_way (λ function. Same (call_value space cube at function (map own_meant trees)) (call_value space cube at function (map plain_meant trees))) (bytes_eq word (codes "ATTRN")) _ _ (by_trees (own_call space cube _) trees)
+        (either_way (λ function. Same (call_value space cube at function (map own_meant trees)) (call_value space cube at function (map plain_meant trees))) (bytes_eq word (codes "ELCOMPN")) _ _ (by_trees (own_call space cube _) trees)
+        (either_way (λ function. Same (call_value space cube at function (map own_meant trees)) (call_value space cube at function (map plain_meant trees))) (bytes_eq word (codes "ELPARN")) _ _ (by_trees (own_call space cube _) trees)
+        refl))))))))))))))))))))
 
   not_is : (p q : Truth) → IsSameTruth p q → IsSameTruth (truths.Not p) (truths.Not q)
   not_is p q same = of-not Value Bool (value_step named others) truth_step p ∙ ap not same ∙ sym (of-not Value Bool (value_step named others) truth_step q)
@@ -236,15 +282,15 @@ module _ (space : Layout) (cube : ℕ) (sets : Sets) (named : Reference → Valu
   step (Tree-F.Bracket simples) = record { value = λ at. same_formula (bracket_of space cube simples >>= (λ r. Ok (formulas.Ref r))); truth = refl }
   step Tree-F.Stet = record { value = alone_same formulas.Stet; truth = refl }
   step Tree-F.Continue = record { value = alone_same formulas.Continue; truth = refl }
-  step (Tree-F.Call word hs) = record { value = λ at. call_same at (call_of word) (map (λ h. h.0) hs) (all_same hs); truth = refl }
+  step (Tree-F.Call word hs) = record { value = λ at. call_same at (map (λ h. h.0) hs) (all_same hs) word; truth = refl }
   step (Tree-F.Minus h) = record { value = λ at. unary_same funs.Minus (own_meant h.0) (plain_meant h.0) h.1; truth = refl }
   step (Tree-F.Not h) = record {
     value = λ at. refl;
     truth = each_related IsSameTruth IsSameTruth (own_meant h.0).1.truth (plain_meant h.0).1.truth (λ q. Ok (truths.Not q)) (λ q. Ok (truths.Not q)) h.1.truth not_is;
   }
   step (Tree-F.Binary op left right) = record {
-    value = λ at. operator_same (operator_of op) (own_meant left.0) (own_meant right.0) (plain_meant left.0) (plain_meant right.0) left.1 right.1;
-    truth = operator_truth_same (operator_of op) (own_meant left.0) (own_meant right.0) (plain_meant left.0) (plain_meant right.0) refl refl left.1 right.1;
+    value = λ at. operator_same op (own_meant left.0) (own_meant right.0) (plain_meant left.0) (plain_meant right.0) left.1 right.1;
+    truth = operator_truth_same op (own_meant left.0) (own_meant right.0) (plain_meant left.0) (plain_meant right.0) refl refl left.1 right.1;
   }
 
   layer : (l : Tree-F Held) → AreSameTree (roll-Tree (out l))

@@ -18,6 +18,7 @@ pub use binding::bind;
 pub use fault::{BindAt, BindFault};
 pub use rule_model::CubeRules;
 pub use standing::Standing;
+pub use sureness::Test;
 
 mod binding;
 mod dimension_size;

@@ -11,7 +11,7 @@ use rule_laws::{ElementTable, Formula, Rel, Truth};
 
 /// A comparison of the numbers of a table with one number.
 #[derive(Clone, Copy)]
-pub(crate) struct Test {
+pub struct Test {
     pub rel: Rel,
     pub number: Money,
     /// Whether the table is the left side.
