@@ -124,41 +124,19 @@ pub fn value_of(
         Tree::Continue => alone(Formula::Continue, at),
         Tree::Call(word, arguments) => {
             let function = function_of(word.as_slice());
-            call_of(
-                alloc,
-                space,
-                maps,
-                cube,
-                sets,
-                at,
-                function,
-                arguments.as_slice(),
-            )
+            let trees = arguments.as_slice();
+            call_of(alloc, space, maps, cube, sets, at, function, trees)
         }
         Tree::Minus(inner) => {
-            let inner = value_of(
-                alloc,
-                space,
-                maps,
-                cube,
-                sets,
-                Standing::Within,
-                inner.get(),
-            )?;
+            let tree = inner.get();
+            let inner = value_of(alloc, space, maps, cube, sets, Standing::Within, tree)?;
             unary(alloc, Fun::Minus, inner)
         }
         Tree::Binary(op, left, right) => match operator_of(*op) {
             Operator::Operation(op) => {
                 let left = value_of(alloc, space, maps, cube, sets, Standing::Within, left.get())?;
-                let right = value_of(
-                    alloc,
-                    space,
-                    maps,
-                    cube,
-                    sets,
-                    Standing::Within,
-                    right.get(),
-                )?;
+                let tree = right.get();
+                let right = value_of(alloc, space, maps, cube, sets, Standing::Within, tree)?;
                 binary(alloc, op, left, right)
             }
             _ => Err(BindCause::Unsupported),
@@ -194,15 +172,8 @@ pub fn truth_of(
             Operator::Operation(_) => Err(BindCause::Unsupported),
             Operator::Comparison(rel) => {
                 let left = value_of(alloc, space, maps, cube, sets, Standing::Within, left.get())?;
-                let right = value_of(
-                    alloc,
-                    space,
-                    maps,
-                    cube,
-                    sets,
-                    Standing::Within,
-                    right.get(),
-                )?;
+                let tree = right.get();
+                let right = value_of(alloc, space, maps, cube, sets, Standing::Within, tree)?;
                 Ok(comparison(space, cube, sets, rel, left, right))
             }
             Operator::Texts(rel) => {

@@ -40,6 +40,7 @@ fn parts_of(
     ensures answers { Answers (parts_of space.now cube sets.now body.now) result }
     ensures maps { AreMapsIn space.now maps.new }
 {
+    let at = Standing::ConsolidatedPart;
     match body {
         BodyText::Both(tree) => {
             let leaf = value_of(alloc, space, maps, cube, sets, Standing::Part, tree)?;
@@ -51,40 +52,16 @@ fn parts_of(
             Ok((Some(leaf), None))
         }
         BodyText::Cons(cons) => {
-            let cons = value_of(
-                alloc,
-                space,
-                maps,
-                cube,
-                &[],
-                Standing::ConsolidatedPart,
-                cons,
-            )?;
+            let cons = value_of(alloc, space, maps, cube, &[], at, cons)?;
             Ok((None, Some(cons)))
         }
         BodyText::LeafCons(leaf, cons) => {
             let leaf = value_of(alloc, space, maps, cube, sets, Standing::Part, leaf)?;
-            let cons = value_of(
-                alloc,
-                space,
-                maps,
-                cube,
-                &[],
-                Standing::ConsolidatedPart,
-                cons,
-            )?;
+            let cons = value_of(alloc, space, maps, cube, &[], at, cons)?;
             Ok((Some(leaf), Some(cons)))
         }
         BodyText::ConsLeaf(cons, leaf) => {
-            let cons = value_of(
-                alloc,
-                space,
-                maps,
-                cube,
-                &[],
-                Standing::ConsolidatedPart,
-                cons,
-            )?;
+            let cons = value_of(alloc, space, maps, cube, &[], at, cons)?;
             let leaf = value_of(alloc, space, maps, cube, sets, Standing::Part, leaf)?;
             Ok((Some(leaf), Some(cons)))
         }
