@@ -1,5 +1,5 @@
 -- The elements of a leaf cell of an area are leaves that the area has in each dimension.
-use Rattle.std.proofs.Common.{◌≡◌, refl, sym, ap, subst, ◌∙◌, ℕ, zero, suc, Bool, true, ◌&&◌, List, [], ◌∷◌, length, Option, Some, Ok, Err, nat_lt}
+use Rattle.std.proofs.Common.{◌≡◌, refl, sym, subst, ℕ, zero, suc, true, List, [], ◌∷◌, length, Option, Some, Ok, Err, nat_lt}
 use Rattle.std.specs.Prelude.{slice_get, slice_index_or}
 use Rattle.std.specs.List.{list_all, zip}
 use Rattle.std.proofs.lemmas.Bool.{and_parts, and_from}
@@ -19,7 +19,6 @@ use Rattle.rule_tree.specs.declared.tree.Tree.{Tree}
 use Rattle.bind_areas.specs.Meaning.{Meaning}
 use Rattle.rule_bind.specs.declared.standing.Standing.TheVariants as standings
 use Rattle.rule_bind.specs.Sureness.{Sets, is_leaf_of}
-use Rattle.rule_bind.specs.Formulas.{meanings}
 use Rattle.rule_bind.specs.Rules.{part_of}
 use Rattle.bind_laws.proofs.SureFacts.{AreLeavesOf}
 use Rattle.bind_laws.proofs.SameValues.{Related, same}

@@ -1,5 +1,5 @@
 -- A part for leaf cells as it is bound gives in them what it gives as it is written.
-use Rattle.std.proofs.Common.{◌≡◌, refl, sym, ap, ap₂, subst, ◌∙◌, ℕ, List, [], ◌∷◌, map, Result, Ok, Err, Bool, codes, bytes_eq, ◌&&◌, ◌||◌, not, if◌then◌else◌}
+use Rattle.std.proofs.Common.{◌≡◌, refl, sym, ap, subst, ◌∙◌, ℕ, List, [], ◌∷◌, map, Ok, Err, Bool, codes, bytes_eq, ◌&&◌, ◌||◌, not, if◌then◌else◌}
 use Rattle.cube_fixed.specs.declared.value.Value.{Value}
 use Rattle.cube_space.specs.Layout.{Layout}
 use Rattle.rule_laws.specs.Meaning.{Others, value_step, truth_step, formula_value, truth_value}
@@ -24,12 +24,12 @@ use Rattle.rule_tree.specs.declared.tree.Tree.TheOpen.{Tree-F}
 use Rattle.bind_areas.specs.Meaning.{Meaning, ◌>>=◌}
 use Rattle.bind_areas.specs.Areas.{bracket_of}
 use Rattle.rule_bind.specs.declared.standing.Standing.{Standing}
-use Rattle.rule_bind.specs.declared.standing.Standing.TheVariants.{Part, ConsolidatedPart, Within}
+use Rattle.rule_bind.specs.declared.standing.Standing.TheVariants.{Within}
 use Rattle.rule_bind.specs.Functions.{function_of as call_of, operator_of}
-use Rattle.rule_bind.specs.References.{db_of, children_of}
+use Rattle.rule_bind.specs.References.{db_of}
 use Rattle.rule_bind.specs.OwnNumbers.{own_call}
 use Rattle.rule_bind.specs.DimensionSize.{size_call}
-use Rattle.rule_bind.specs.Texts.{Side, side_of, shared_place, compared, texts_truth}
+use Rattle.rule_bind.specs.Texts.{side_of, shared_place, texts_truth}
 use Rattle.rule_bind.specs.Sureness.{Sets, comparison}
 use Rattle.rule_bind.specs.Formulas.{Meanings, Meant, alone, children, unary, binary, choice, choice_call, unary_call, binary_call, children_call, call_value, operator_value, operator_truth, meanings_step, meanings, meant}
 use Rattle.rule_bind.proofs.FormulaFacts.{by_layer, trees_again}
