@@ -1,5 +1,5 @@
 -- What a formula that is bound reads meets the conditions.
-use Rattle.std.proofs.Common.{◌≡◌, ◌<◌, ℕ, List, [], ◌∷◌, ◌++◌, length, map, Ok, All, refl, sym, subst, ◌∙◌, Bool, true, false, if◌then◌else◌, codes, bytes_eq}
+use Rattle.std.proofs.Common.{◌≡◌, ◌<◌, ℕ, ℤ, List, [], ◌∷◌, ◌++◌, length, map, Ok, All, refl, sym, subst, ◌∙◌, Bool, true, false, if◌then◌else◌, codes, bytes_eq}
 use Rattle.std.proofs.lemmas.List.Elements.{All-nil, All-cons, All-append, All-weaker}
 use Rattle.cube_space.specs.Layout.{Layout}
 use Rattle.cube_space.specs.Cells.{IsSpace}
@@ -28,9 +28,11 @@ use Rattle.rule_bind.specs.declared.standing.Standing.TheVariants.{Part, Consoli
 use Rattle.rule_bind.specs.Functions.{function_of, operator_of}
 use Rattle.rule_bind.specs.References.{db_of, children_of}
 use Rattle.rule_bind.specs.Formulas.{Meanings, Meant, alone, children, unary, binary, choice, choice_call, unary_call, binary_call, children_call, call_value, operator_value, operator_truth, meanings_step, meanings, meant}
+use Rattle.rule_bind.specs.Sureness.{Sets, test_with, side, comparison}
 use Rattle.rule_bind.proofs.FormulaFacts.{by_layer}
 use Rattle.rule_bind.proofs.OwnFacts.{IsTable, IsTableTruth, IsCounted, call_table, texts_table, call_counted}
 use Rattle.rule_bind.proofs.Got.{got, answer}
+use Rattle.bind_laws.proofs.Sides.{side_has}
 use Rattle.bind_laws.proofs.AreaFacts.{bracket_valid}
 use Rattle.bind_laws.proofs.ReferenceFacts.{db_valid, children_low}
 use Rattle.rule_laws.proofs.PrecedentFacts.{number_reads, stet_reads, continue_reads, children_reads, reference_reads, table_reads, binary_reads, unary_reads, if_reads, compare_reads, and_reads, or_reads, not_reads}
@@ -112,11 +114,21 @@ module _ (space : Layout) (cube : ℕ) where
   table_good at f (place, table, same) =
       subst (λ g. AreRead at (precedents g)) (sym same) (none_read at (precedents (formulas.Table place table)) (table_reads place table))
 
-  table_truth_good : (q : Truth) → IsTableTruth q → AreRead Within (truth_precedents q)
-  table_truth_good q (rel, place, table, k, same) =
+  -- a comparison as it is bound, which may have a number in place of a table
+  comparison_good : (sets : Sets) (rel : Rel) (a b : Formula) → AreRead Within (precedents a) → AreRead Within (precedents b) → AreRead Within (truth_precedents (comparison space cube sets rel a b))
+  unfolding comparison
+  comparison_good sets rel a b first second =
+      let P : Formula → Type 0 = λ f. AreRead Within (precedents f) in
+      let number : (k : ℤ) → P (formulas.Number k) = λ k. none_read Within (precedents (formulas.Number k)) (number_reads k) in
+      let left = side space cube sets (test_with rel true b) a in
+      let right = side space cube sets (test_with rel false a) b in
+      both_read Within (precedents left) (precedents right) _ (compare_reads rel left right)
+      (side_has space cube sets P number (test_with rel true b) a first) (side_has space cube sets P number (test_with rel false a) b second)
+
+  table_truth_good : (sets : Sets) (q : Truth) → IsTableTruth space cube sets q → AreRead Within (truth_precedents q)
+  table_truth_good sets q (rel, place, table, k, same) =
       subst (λ z. AreRead Within (truth_precedents z)) (sym same)
-      (both_read Within (precedents (formulas.Table place table)) (precedents (formulas.Number k)) _ (compare_reads rel (formulas.Table place table) (formulas.Number k))
-      (none_read Within _ (table_reads place table)) (none_read Within _ (number_reads k)))
+      (comparison_good sets rel (formulas.Table place table) (formulas.Number k) (none_read Within _ (table_reads place table)) (none_read Within _ (number_reads k)))
 
   counted_good : (at : Standing) (f : Formula) → IsCounted f → AreRead at (precedents f)
   counted_good at f (k, same) =
@@ -150,30 +162,30 @@ module _ (space : Layout) (cube : ℕ) where
   children_call_good at (dim ∷ []) = children_good at dim.0
   children_call_good at _ = λ f is. absurd (cc is)
 
-  compare_good : (rel : Rel) (left right : Meant) → IsSound left.1 → IsSound right.1 → IsGoodTruth Within (left.1.value Within >>= (λ a. right.1.value Within >>= (λ b. Ok (truths.Compare rel a b))))
-  compare_good rel left right l r q is =
-      let (a, first, more) = got (left.1.value Within) (λ a. right.1.value Within >>= (λ b. Ok (truths.Compare rel a b))) q is in
-      let (b, second, rest) = got (right.1.value Within) (λ b. Ok (truths.Compare rel a b)) q more in
-      given_truth Within (truths.Compare rel a b) q rest (both_read Within (precedents a) (precedents b) _ (compare_reads rel a b) (l.value Within a first) (r.value Within b second))
+  compare_good : (sets : Sets) (rel : Rel) (left right : Meant) → IsSound left.1 → IsSound right.1 → IsGoodTruth Within (left.1.value Within >>= (λ a. right.1.value Within >>= (λ b. Ok (comparison space cube sets rel a b))))
+  compare_good sets rel left right l r q is =
+      let (a, first, more) = got (left.1.value Within) (λ a. right.1.value Within >>= (λ b. Ok (comparison space cube sets rel a b))) q is in
+      let (b, second, rest) = got (right.1.value Within) (λ b. Ok (comparison space cube sets rel a b)) q more in
+      given_truth Within (comparison space cube sets rel a b) q rest (comparison_good sets rel a b (l.value Within a first) (r.value Within b second))
 
-  operator_truth_good : (op : TreeOp) (left right : Meant) → IsSound left.1 → IsSound right.1 → IsGoodTruth Within (operator_truth space cube (operator_of op) left right)
-  operator_truth_good signs.And left right l r = λ q is.
+  operator_truth_good : (sets : Sets) (op : TreeOp) (left right : Meant) → IsSound left.1 → IsSound right.1 → IsGoodTruth Within (operator_truth space cube sets (operator_of op) left right)
+  operator_truth_good sets signs.And left right l r = λ q is.
       let (a, first, more) = got left.1.truth (λ a. right.1.truth >>= (λ b. Ok (truths.And a b))) q is in
       let (b, second, rest) = got right.1.truth (λ b. Ok (truths.And a b)) q more in
       given_truth Within (truths.And a b) q rest (both_read Within (truth_precedents a) (truth_precedents b) _ (and_reads a b) (l.truth a first) (r.truth b second))
-  operator_truth_good signs.Or left right l r = λ q is.
+  operator_truth_good sets signs.Or left right l r = λ q is.
       let (a, first, more) = got left.1.truth (λ a. right.1.truth >>= (λ b. Ok (truths.Or a b))) q is in
       let (b, second, rest) = got right.1.truth (λ b. Ok (truths.Or a b)) q more in
       given_truth Within (truths.Or a b) q rest (both_read Within (truth_precedents a) (truth_precedents b) _ (or_reads a b) (l.truth a first) (r.truth b second))
-  operator_truth_good signs.Equal left right l r = compare_good rels.Equal left right l r
-  operator_truth_good signs.Unequal left right l r = compare_good rels.Unequal left right l r
-  operator_truth_good signs.Less left right l r = compare_good rels.Less left right l r
-  operator_truth_good signs.Greater left right l r = compare_good rels.Greater left right l r
-  operator_truth_good signs.AtMost left right l r = compare_good rels.AtMost left right l r
-  operator_truth_good signs.AtLeast left right l r = compare_good rels.AtLeast left right l r
-  operator_truth_good signs.Same left right l r = λ q is. table_truth_good q (texts_table space cube rels.Equal left.0 right.0 q is)
-  operator_truth_good signs.Other left right l r = λ q is. table_truth_good q (texts_table space cube rels.Unequal left.0 right.0 q is)
-  operator_truth_good _ left right l r = λ q is. absurd (cc is)
+  operator_truth_good sets signs.Equal left right l r = compare_good sets rels.Equal left right l r
+  operator_truth_good sets signs.Unequal left right l r = compare_good sets rels.Unequal left right l r
+  operator_truth_good sets signs.Less left right l r = compare_good sets rels.Less left right l r
+  operator_truth_good sets signs.Greater left right l r = compare_good sets rels.Greater left right l r
+  operator_truth_good sets signs.AtMost left right l r = compare_good sets rels.AtMost left right l r
+  operator_truth_good sets signs.AtLeast left right l r = compare_good sets rels.AtLeast left right l r
+  operator_truth_good sets signs.Same left right l r = λ q is. table_truth_good sets q (texts_table space cube sets rels.Equal left.0 right.0 q is)
+  operator_truth_good sets signs.Other left right l r = λ q is. table_truth_good sets q (texts_table space cube sets rels.Unequal left.0 right.0 q is)
+  operator_truth_good sets _ left right l r = λ q is. absurd (cc is)
 
   not_good : (m : Meant) → IsSound m.1 → IsGoodTruth Within (m.1.truth >>= (λ q. Ok (truths.Not q)))
   not_good m sound q is =
@@ -225,33 +237,34 @@ module _ (space : Layout) (cube : ℕ) where
         (either_way (λ function. IsGood at (call_value space cube at function ms)) (bytes_eq word (codes "ELPARN")) _ _ (λ f is. table_good at f (call_table space cube _ (map (λ m. m.0) ms) f is))
         (λ f is. absurd (cc is))))))))))))))))))))))
 
-    abbrev Held : Type 0
-    Held = (tree : Tree) × IsSound (meanings space cube tree)
+    module _ (sets : Sets) where
+      abbrev Held : Type 0
+      Held = (tree : Tree) × IsSound (meanings space cube sets tree)
 
-    abbrev out : Tree-F Held → Tree-F Tree
-    out l = map-Tree Held Tree (λ h. h.0) l
+      abbrev out : Tree-F Held → Tree-F Tree
+      out l = map-Tree Held Tree (λ h. h.0) l
 
-    all_sound : (hs : List Held) → AreSound (map (meant space cube) (map (λ h. h.0) hs))
-    all_sound [] = tt
-    all_sound (h ∷ hs) = (h.1, all_sound hs)
+      all_sound : (hs : List Held) → AreSound (map (meant space cube sets) (map (λ h. h.0) hs))
+      all_sound [] = tt
+      all_sound (h ∷ hs) = (h.1, all_sound hs)
 
-    step : (l : Tree-F Held) → IsSound (meanings_step space cube (map-Tree Tree Meant (meant space cube) (out l)))
-    step (Tree-F.Number k) = record { value = λ at f is. given at (formulas.Number k) f is (none_read at _ (number_reads k)); truth = λ q is. absurd (cc is) }
-    step (Tree-F.Text bytes) = record { value = λ at f is. absurd (cc is); truth = λ q is. absurd (cc is) }
-    step (Tree-F.Current dim) = record { value = λ at f is. absurd (cc is); truth = λ q is. absurd (cc is) }
-    step (Tree-F.Bracket simples) = record { value = λ at. reference_good at (bracket_of space cube simples) (λ r. bracket_valid space cube simples r low); truth = λ q is. absurd (cc is) }
-    step Tree-F.Stet = record { value = λ at. alone_good at formulas.Stet stet_reads; truth = λ q is. absurd (cc is) }
-    step Tree-F.Continue = record { value = λ at. alone_good at formulas.Continue continue_reads; truth = λ q is. absurd (cc is) }
-    step (Tree-F.Call word hs) = record { value = λ at. call_good at word (map (meant space cube) (map (λ h. h.0) hs)) (all_sound hs); truth = λ q is. absurd (cc is) }
-    step (Tree-F.Minus h) = record { value = λ at. unary_good at funs.Minus (meant space cube h.0) h.1; truth = λ q is. absurd (cc is) }
-    step (Tree-F.Not h) = record { value = λ at f is. absurd (cc is); truth = not_good (meant space cube h.0) h.1 }
-    step (Tree-F.Binary op left right) = record {
-      value = λ at. operator_good at op (meant space cube left.0) (meant space cube right.0) left.1 right.1;
-      truth = operator_truth_good op (meant space cube left.0) (meant space cube right.0) left.1 right.1;
-    }
+      step : (l : Tree-F Held) → IsSound (meanings_step space cube sets (map-Tree Tree Meant (meant space cube sets) (out l)))
+      step (Tree-F.Number k) = record { value = λ at f is. given at (formulas.Number k) f is (none_read at _ (number_reads k)); truth = λ q is. absurd (cc is) }
+      step (Tree-F.Text bytes) = record { value = λ at f is. absurd (cc is); truth = λ q is. absurd (cc is) }
+      step (Tree-F.Current dim) = record { value = λ at f is. absurd (cc is); truth = λ q is. absurd (cc is) }
+      step (Tree-F.Bracket simples) = record { value = λ at. reference_good at (bracket_of space cube simples) (λ r. bracket_valid space cube simples r low); truth = λ q is. absurd (cc is) }
+      step Tree-F.Stet = record { value = λ at. alone_good at formulas.Stet stet_reads; truth = λ q is. absurd (cc is) }
+      step Tree-F.Continue = record { value = λ at. alone_good at formulas.Continue continue_reads; truth = λ q is. absurd (cc is) }
+      step (Tree-F.Call word hs) = record { value = λ at. call_good at word (map (meant space cube sets) (map (λ h. h.0) hs)) (all_sound hs); truth = λ q is. absurd (cc is) }
+      step (Tree-F.Minus h) = record { value = λ at. unary_good at funs.Minus (meant space cube sets h.0) h.1; truth = λ q is. absurd (cc is) }
+      step (Tree-F.Not h) = record { value = λ at f is. absurd (cc is); truth = not_good (meant space cube sets h.0) h.1 }
+      step (Tree-F.Binary op left right) = record {
+        value = λ at. operator_good at op (meant space cube sets left.0) (meant space cube sets right.0) left.1 right.1;
+        truth = operator_truth_good sets op (meant space cube sets left.0) (meant space cube sets right.0) left.1 right.1;
+      }
 
-    layer : (l : Tree-F Held) → IsSound (meanings space cube (roll-Tree (out l)))
-    layer l = subst IsSound (sym (by_layer space cube (out l))) (step l)
+      layer : (l : Tree-F Held) → IsSound (meanings space cube sets (roll-Tree (out l)))
+      layer l = subst IsSound (sym (by_layer space cube sets (out l))) (step l)
 
-    pub sound : (tree : Tree) → IsSound (meanings space cube tree)
-    sound = ind-Tree (λ tree. IsSound (meanings space cube tree)) (λ x l is. subst (λ z. IsSound (meanings space cube (roll-Tree z))) is (layer l))
+      pub sound : (tree : Tree) → IsSound (meanings space cube sets tree)
+      sound = ind-Tree (λ tree. IsSound (meanings space cube sets tree)) (λ x l is. subst (λ z. IsSound (meanings space cube sets (roll-Tree z))) is (layer l))

@@ -1,5 +1,5 @@
 -- What is counted of a formula that is bound: at most one for each node of its text.
-use Rattle.std.proofs.Common.{◌≡◌, ◌≤◌, ◌+◌, ℕ, ℤ, List, [], ◌∷◌, map, Ok, sym, subst, codes, bytes_eq, arith}
+use Rattle.std.proofs.Common.{◌≡◌, ◌≤◌, ◌+◌, ℕ, ℤ, List, [], ◌∷◌, map, Ok, sym, subst, true, false, codes, bytes_eq, arith}
 use Rattle.std.specs.List.{sum}
 use Rattle.cube_space.specs.Layout.{Layout}
 use Rattle.rule_laws.specs.declared.reference.Reference.{Reference}
@@ -27,9 +27,11 @@ use Rattle.rule_bind.specs.declared.standing.Standing.TheVariants.{Part, Consoli
 use Rattle.rule_bind.specs.Functions.{function_of, operator_of}
 use Rattle.rule_bind.specs.References.{db_of, children_of}
 use Rattle.rule_bind.specs.Formulas.{Meanings, Meant, alone, children, unary, binary, choice, choice_call, unary_call, binary_call, children_call, call_value, operator_value, operator_truth, meanings_step, meanings, meant}
+use Rattle.rule_bind.specs.Sureness.{Sets, test_with, side, comparison}
 use Rattle.rule_bind.proofs.FormulaFacts.{by_layer}
 use Rattle.rule_bind.proofs.OwnFacts.{IsTable, IsTableTruth, IsCounted, call_table, texts_table, call_counted}
 use Rattle.rule_bind.proofs.Got.{got, answer}
+use Rattle.bind_laws.proofs.Sides.{side_has}
 use Rattle.bind_laws.proofs.FormulaFacts.{either_way}
 
 -- of an operand at most one is counted, and of all else what is counted of its parts
@@ -108,34 +110,47 @@ module _ (of : Formula → ℕ) (of_truth : Truth → ℕ) (counts : IsCount of 
   alone_light n ConsolidatedPart x small f is = given n x f is small
   alone_light n Within x small f is = absurd (cc is)
 
-  compare_light : (n k s : ℕ) (rel : Rel) (left right : Meant) → AreLight n left.1 → AreLight k right.1 → n + k ≤ s → IsLightTruth s (left.1.value Within >>= (λ a. right.1.value Within >>= (λ b. Ok (truths.Compare rel a b))))
-  compare_light n k s rel left right l r small q is =
-      let (a, first, more) = got (left.1.value Within) (λ a. right.1.value Within >>= (λ b. Ok (truths.Compare rel a b))) q is in
-      let (b, second, rest) = got (right.1.value Within) (λ b. Ok (truths.Compare rel a b)) q more in
-      given_truth s (truths.Compare rel a b) q rest (omega (arith, counts.compare rel a b, l.value Within a first, r.value Within b second, small))
+  -- a comparison as it is bound, which may have a number in place of a table
+  comparison_light : (n k s : ℕ) (space : Layout) (cube : ℕ) (sets : Sets) (rel : Rel) (a b : Formula) → 1 ≤ n → 1 ≤ k → n + k ≤ s → of a ≤ n → of b ≤ k → of_truth (comparison space cube sets rel a b) ≤ s
+  unfolding comparison
+  comparison_light n k s space cube sets rel a b some_left some_right small first second =
+      let left = side space cube sets (test_with rel true b) a in
+      let right = side space cube sets (test_with rel false a) b in
+      let fewer : of left ≤ n = side_has space cube sets (λ f. of f ≤ n) (λ z. omega (arith, counts.number z, some_left)) (test_with rel true b) a first in
+      let few : of right ≤ k = side_has space cube sets (λ f. of f ≤ k) (λ z. omega (arith, counts.number z, some_right)) (test_with rel false a) b second in
+      let whole : of_truth (truths.Compare rel left right) ≤ s = omega (arith, counts.compare rel left right, fewer, few, small) in
+      whole
 
-  table_truth_light : (n : ℕ) (q : Truth) → IsTableTruth q → 2 ≤ n → of_truth q ≤ n
-  table_truth_light n q (rel, place, table, k, same) enough =
-      subst (λ z. of_truth z ≤ n) (sym same) (omega (arith, counts.compare rel (formulas.Table place table) (formulas.Number k), counts.table place table, counts.number k, enough))
+  compare_light : (n k s : ℕ) (space : Layout) (cube : ℕ) (sets : Sets) (rel : Rel) (left right : Meant) → AreLight n left.1 → AreLight k right.1 → 1 ≤ n → 1 ≤ k → n + k ≤ s
+      → IsLightTruth s (left.1.value Within >>= (λ a. right.1.value Within >>= (λ b. Ok (comparison space cube sets rel a b))))
+  compare_light n k s space cube sets rel left right l r some_left some_right small q is =
+      let (a, first, more) = got (left.1.value Within) (λ a. right.1.value Within >>= (λ b. Ok (comparison space cube sets rel a b))) q is in
+      let (b, second, rest) = got (right.1.value Within) (λ b. Ok (comparison space cube sets rel a b)) q more in
+      given_truth s (comparison space cube sets rel a b) q rest (comparison_light n k s space cube sets rel a b some_left some_right small (l.value Within a first) (r.value Within b second))
 
-  operator_truth_light : (n k s : ℕ) (space : Layout) (cube : ℕ) (op : TreeOp) (left right : Meant) → AreLight n left.1 → AreLight k right.1 → 1 ≤ n → 1 ≤ k → n + k ≤ s → IsLightTruth s (operator_truth space cube (operator_of op) left right)
-  operator_truth_light n k s space cube signs.And left right l r some_left some_right small = λ q is.
+  table_truth_light : (n : ℕ) (space : Layout) (cube : ℕ) (sets : Sets) (q : Truth) → IsTableTruth space cube sets q → 2 ≤ n → of_truth q ≤ n
+  table_truth_light n space cube sets q (rel, place, table, k, same) enough =
+      subst (λ z. of_truth z ≤ n) (sym same)
+      (comparison_light 1 1 n space cube sets rel (formulas.Table place table) (formulas.Number k) (omega arith) (omega arith) enough (counts.table place table) (counts.number k))
+
+  operator_truth_light : (n k s : ℕ) (space : Layout) (cube : ℕ) (sets : Sets) (op : TreeOp) (left right : Meant) → AreLight n left.1 → AreLight k right.1 → 1 ≤ n → 1 ≤ k → n + k ≤ s → IsLightTruth s (operator_truth space cube sets (operator_of op) left right)
+  operator_truth_light n k s space cube sets signs.And left right l r some_left some_right small = λ q is.
       let (a, first, more) = got left.1.truth (λ a. right.1.truth >>= (λ b. Ok (truths.And a b))) q is in
       let (b, second, rest) = got right.1.truth (λ b. Ok (truths.And a b)) q more in
       given_truth s (truths.And a b) q rest (omega (arith, counts.both a b, l.truth a first, r.truth b second, small))
-  operator_truth_light n k s space cube signs.Or left right l r some_left some_right small = λ q is.
+  operator_truth_light n k s space cube sets signs.Or left right l r some_left some_right small = λ q is.
       let (a, first, more) = got left.1.truth (λ a. right.1.truth >>= (λ b. Ok (truths.Or a b))) q is in
       let (b, second, rest) = got right.1.truth (λ b. Ok (truths.Or a b)) q more in
       given_truth s (truths.Or a b) q rest (omega (arith, counts.either a b, l.truth a first, r.truth b second, small))
-  operator_truth_light n k s space cube signs.Equal left right l r some_left some_right small = compare_light n k s rels.Equal left right l r small
-  operator_truth_light n k s space cube signs.Unequal left right l r some_left some_right small = compare_light n k s rels.Unequal left right l r small
-  operator_truth_light n k s space cube signs.Less left right l r some_left some_right small = compare_light n k s rels.Less left right l r small
-  operator_truth_light n k s space cube signs.Greater left right l r some_left some_right small = compare_light n k s rels.Greater left right l r small
-  operator_truth_light n k s space cube signs.AtMost left right l r some_left some_right small = compare_light n k s rels.AtMost left right l r small
-  operator_truth_light n k s space cube signs.AtLeast left right l r some_left some_right small = compare_light n k s rels.AtLeast left right l r small
-  operator_truth_light n k s space cube signs.Same left right l r some_left some_right small = λ q is. table_truth_light s q (texts_table space cube rels.Equal left.0 right.0 q is) (omega (arith, some_left, some_right, small))
-  operator_truth_light n k s space cube signs.Other left right l r some_left some_right small = λ q is. table_truth_light s q (texts_table space cube rels.Unequal left.0 right.0 q is) (omega (arith, some_left, some_right, small))
-  operator_truth_light n k s space cube _ left right l r some_left some_right small = λ q is. absurd (cc is)
+  operator_truth_light n k s space cube sets signs.Equal left right l r some_left some_right small = compare_light n k s space cube sets rels.Equal left right l r some_left some_right small
+  operator_truth_light n k s space cube sets signs.Unequal left right l r some_left some_right small = compare_light n k s space cube sets rels.Unequal left right l r some_left some_right small
+  operator_truth_light n k s space cube sets signs.Less left right l r some_left some_right small = compare_light n k s space cube sets rels.Less left right l r some_left some_right small
+  operator_truth_light n k s space cube sets signs.Greater left right l r some_left some_right small = compare_light n k s space cube sets rels.Greater left right l r some_left some_right small
+  operator_truth_light n k s space cube sets signs.AtMost left right l r some_left some_right small = compare_light n k s space cube sets rels.AtMost left right l r some_left some_right small
+  operator_truth_light n k s space cube sets signs.AtLeast left right l r some_left some_right small = compare_light n k s space cube sets rels.AtLeast left right l r some_left some_right small
+  operator_truth_light n k s space cube sets signs.Same left right l r some_left some_right small = λ q is. table_truth_light s space cube sets q (texts_table space cube sets rels.Equal left.0 right.0 q is) (omega (arith, some_left, some_right, small))
+  operator_truth_light n k s space cube sets signs.Other left right l r some_left some_right small = λ q is. table_truth_light s space cube sets q (texts_table space cube sets rels.Unequal left.0 right.0 q is) (omega (arith, some_left, some_right, small))
+  operator_truth_light n k s space cube sets _ left right l r some_left some_right small = λ q is. absurd (cc is)
 
   not_light : (n k : ℕ) (m : Meant) → AreLight n m.1 → n ≤ k → IsLightTruth k (m.1.truth >>= (λ q. Ok (truths.Not q)))
   not_light n k m light small q is =
@@ -155,7 +170,7 @@ module _ (of : Formula → ℕ) (of_truth : Truth → ℕ) (counts : IsCount of 
       let (r, found, rest) = got m (λ r. Ok (formulas.Ref r)) f is in
       given n (formulas.Ref r) f rest (omega (arith, counts.reference r, some))
 
-  module _ (space : Layout) (cube : ℕ) where
+  module _ (space : Layout) (cube : ℕ) (sets : Sets) where
     children_light : (n : ℕ) (at : Standing) (tree : Tree) → 1 ≤ n → IsLight n (children space cube at tree)
     children_light n Part tree some f is = absurd (cc is)
     children_light n ConsolidatedPart tree some f is =
@@ -166,25 +181,25 @@ module _ (of : Formula → ℕ) (of_truth : Truth → ℕ) (counts : IsCount of 
     -- each of the parts has what its nodes allow
     abbrev pub AreEachLight : List Tree → Type 0
     AreEachLight [] = Unit {0}
-    AreEachLight (tree ∷ trees) = AreLight (nodes tree) (meanings space cube tree) × AreEachLight trees
+    AreEachLight (tree ∷ trees) = AreLight (nodes tree) (meanings space cube sets tree) × AreEachLight trees
 
     abbrev all_meant : List Tree → List Meant
-    all_meant trees = map (meant space cube) trees
+    all_meant trees = map (meant space cube sets) trees
 
     -- a call of these
     abbrev called : List Tree → ℕ
     called trees = 1 + sum (map nodes trees)
 
     choice_call_light : (at : Standing) (trees : List Tree) → AreEachLight trees → IsLight (called trees) (choice_call at (all_meant trees))
-    choice_call_light at (c ∷ l ∷ r ∷ []) light = choice_light (nodes c) (nodes l) (nodes r) (called (c ∷ l ∷ r ∷ [])) at (meant space cube c) (meant space cube l) (meant space cube r) light.0 light.1.0 light.1.1.0 (omega arith)
+    choice_call_light at (c ∷ l ∷ r ∷ []) light = choice_light (nodes c) (nodes l) (nodes r) (called (c ∷ l ∷ r ∷ [])) at (meant space cube sets c) (meant space cube sets l) (meant space cube sets r) light.0 light.1.0 light.1.1.0 (omega arith)
     choice_call_light at _ light = λ f is. absurd (cc is)
 
     unary_call_light : (function : Fun) (trees : List Tree) → AreEachLight trees → IsLight (called trees) (unary_call function (all_meant trees))
-    unary_call_light function (m ∷ []) light = unary_light (nodes m) (called (m ∷ [])) function (meant space cube m) light.0 (omega arith)
+    unary_call_light function (m ∷ []) light = unary_light (nodes m) (called (m ∷ [])) function (meant space cube sets m) light.0 (omega arith)
     unary_call_light function _ light = λ f is. absurd (cc is)
 
     binary_call_light : (op : Op) (trees : List Tree) → AreEachLight trees → IsLight (called trees) (binary_call op (all_meant trees))
-    binary_call_light op (l ∷ r ∷ []) light = binary_light (nodes l) (nodes r) (called (l ∷ r ∷ [])) op (meant space cube l) (meant space cube r) light.0 light.1.0 (omega arith)
+    binary_call_light op (l ∷ r ∷ []) light = binary_light (nodes l) (nodes r) (called (l ∷ r ∷ [])) op (meant space cube sets l) (meant space cube sets r) light.0 light.1.0 (omega arith)
     binary_call_light op _ light = λ f is. absurd (cc is)
 
     table_light : (trees : List Tree) (f : Formula) → IsTable f → of f ≤ called trees
@@ -226,7 +241,7 @@ module _ (of : Formula → ℕ) (of_truth : Truth → ℕ) (counts : IsCount of 
         (λ f is. absurd (cc is))))))))))))))))))))))
 
     abbrev IsLightTree : Tree → Type 0
-    IsLightTree tree = AreLight (nodes tree) (meanings space cube tree)
+    IsLightTree tree = AreLight (nodes tree) (meanings space cube sets tree)
 
     abbrev Held : Type 0
     Held = (tree : Tree) × IsLightTree tree
@@ -238,7 +253,7 @@ module _ (of : Formula → ℕ) (of_truth : Truth → ℕ) (counts : IsCount of 
     all_light [] = tt
     all_light (h ∷ hs) = (h.1, all_light hs)
 
-    step : (l : Tree-F Held) → AreLight (nodes_step (map-Tree Tree ℕ nodes (out l))) (meanings_step space cube (map-Tree Tree Meant (meant space cube) (out l)))
+    step : (l : Tree-F Held) → AreLight (nodes_step (map-Tree Tree ℕ nodes (out l))) (meanings_step space cube sets (map-Tree Tree Meant (meant space cube sets) (out l)))
     step (Tree-F.Number k) = record { value = λ at f is. given 1 (formulas.Number k) f is (counts.number k); truth = λ q is. absurd (cc is) }
     step (Tree-F.Text bytes) = record { value = λ at f is. absurd (cc is); truth = λ q is. absurd (cc is) }
     step (Tree-F.Current dim) = record { value = λ at f is. absurd (cc is); truth = λ q is. absurd (cc is) }
@@ -246,15 +261,15 @@ module _ (of : Formula → ℕ) (of_truth : Truth → ℕ) (counts : IsCount of 
     step Tree-F.Stet = record { value = λ at. alone_light 1 at formulas.Stet counts.stet; truth = λ q is. absurd (cc is) }
     step Tree-F.Continue = record { value = λ at. alone_light 1 at formulas.Continue counts.continue; truth = λ q is. absurd (cc is) }
     step (Tree-F.Call word hs) = record { value = λ at. call_light at word (map (λ h. h.0) hs) (all_light hs); truth = λ q is. absurd (cc is) }
-    step (Tree-F.Minus h) = record { value = λ at. unary_light (nodes h.0) (1 + nodes h.0) funs.Minus (meant space cube h.0) h.1 (omega arith); truth = λ q is. absurd (cc is) }
-    step (Tree-F.Not h) = record { value = λ at f is. absurd (cc is); truth = not_light (nodes h.0) (1 + nodes h.0) (meant space cube h.0) h.1 (omega arith) }
+    step (Tree-F.Minus h) = record { value = λ at. unary_light (nodes h.0) (1 + nodes h.0) funs.Minus (meant space cube sets h.0) h.1 (omega arith); truth = λ q is. absurd (cc is) }
+    step (Tree-F.Not h) = record { value = λ at f is. absurd (cc is); truth = not_light (nodes h.0) (1 + nodes h.0) (meant space cube sets h.0) h.1 (omega arith) }
     step (Tree-F.Binary op left right) = record {
-      value = λ at. operator_light (nodes left.0) (nodes right.0) (1 + nodes left.0 + nodes right.0) at op (meant space cube left.0) (meant space cube right.0) left.1 right.1 (omega arith);
-      truth = operator_truth_light (nodes left.0) (nodes right.0) (1 + nodes left.0 + nodes right.0) space cube op (meant space cube left.0) (meant space cube right.0) left.1 right.1 (some_nodes left.0) (some_nodes right.0) (omega arith);
+      value = λ at. operator_light (nodes left.0) (nodes right.0) (1 + nodes left.0 + nodes right.0) at op (meant space cube sets left.0) (meant space cube sets right.0) left.1 right.1 (omega arith);
+      truth = operator_truth_light (nodes left.0) (nodes right.0) (1 + nodes left.0 + nodes right.0) space cube sets op (meant space cube sets left.0) (meant space cube sets right.0) left.1 right.1 (some_nodes left.0) (some_nodes right.0) (omega arith);
     }
 
     layer : (l : Tree-F Held) → IsLightTree (roll-Tree (out l))
-    layer l = subst (λ n. AreLight n (meanings space cube (roll-Tree (out l)))) (sym (nodes-roll (out l))) (subst (AreLight (nodes_step (map-Tree Tree ℕ nodes (out l)))) (sym (by_layer space cube (out l))) (step l))
+    layer l = subst (λ n. AreLight n (meanings space cube sets (roll-Tree (out l)))) (sym (nodes-roll (out l))) (subst (AreLight (nodes_step (map-Tree Tree ℕ nodes (out l)))) (sym (by_layer space cube sets (out l))) (step l))
 
     pub light : (tree : Tree) → IsLightTree tree
     light = ind-Tree IsLightTree (λ x l is. subst (λ z. IsLightTree (roll-Tree z)) is (layer l))

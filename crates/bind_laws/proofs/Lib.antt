@@ -1,7 +1,11 @@
 mod AreaFacts
 mod CubeFacts
 mod ReferenceFacts
+mod Sides
 mod FormulaFacts
+mod SureFacts
+mod SameValues
+mod LeafValues
 mod FormulaSizes
 mod CountFacts
 mod RuleSizes

@@ -29,6 +29,7 @@ use Rattle.rule_bind.specs.declared.standing.Standing.TheVariants as standings
 use Rattle.rule_bind.specs.Rules.{part_of, consolidated_of, Parts, parts_of, form_of, statement_of, target_of, feeders_to, feeders_of, standing_at, statements_of, all_feeders_of, rules_of}
 use Rattle.rule_tree.specs.Sizes.{IsWithinLimits}
 use Rattle.cube_lex.specs.Reading.{most_text_bytes}
+use Rattle.rule_bind.specs.Sureness.{Sets}
 use Rattle.rule_bind.proofs.Got.{got, answer, unplaced}
 use Rattle.bind_laws.proofs.AreaFacts.{area_valid, bracket_valid}
 use Rattle.bind_laws.proofs.ReferenceFacts.{db_valid}
@@ -37,15 +38,15 @@ use Rattle.bind_laws.proofs.RuleSizes.{IsCounted, statements_counted, feeders_co
 
 module _ (space : Layout) (cube : ℕ) (valid : IsSpace space) (low : cube < length space.cubes) where
   -- a part for leaf cells, which may be one for consolidated cells too
-  leaf_part : (tree : Tree) (f : Formula) → part_of space cube tree ≡ Ok f → IsLeafPart space cube f
-  leaf_part tree f is =
-      let all = (sound space cube valid low tree).value standings.Part f is in (
+  leaf_part : (sets : Sets) (tree : Tree) (f : Formula) → part_of space cube sets tree ≡ Ok f → IsLeafPart space cube f
+  leaf_part sets tree f is =
+      let all = (sound space cube valid low sets tree).value standings.Part f is in (
         All-weaker (IsRead space cube standings.Part) (IsPrecedent space cube) (λ p read. read.0) (precedents f) all,
         All-weaker (IsRead space cube standings.Part) IsNamed (λ p read. read.1) (precedents f) all,
       )
 
   consolidated_part : (tree : Tree) (f : Formula) → consolidated_of space cube tree ≡ Ok f → IsConsolidatedPart space cube f
-  consolidated_part tree f is = (sound space cube valid low tree).value standings.ConsolidatedPart f is
+  consolidated_part tree f is = (sound space cube valid low [] tree).value standings.ConsolidatedPart f is
 
   abbrev AreParts : Parts → Type 0
   AreParts parts = IfSome parts.0 (IsLeafPart space cube) × IfSome parts.1 (IsConsolidatedPart space cube)
@@ -53,25 +54,25 @@ module _ (space : Layout) (cube : ℕ) (valid : IsSpace space) (low : cube < len
   same_parts : (made parts : Parts) → answer made ≡ Ok parts → AreParts made → AreParts parts
   same_parts made parts is are = let same : made ≡ parts = cc is in subst AreParts same are
 
-  parts_valid : (body : BodyText) (parts : Parts) → parts_of space cube body ≡ Ok parts → AreParts parts
-  parts_valid (bodies.Both tree) parts is =
-      let (f, found, rest) = got (part_of space cube tree) (λ f. Ok (Some f, Some f)) parts is in
-      let leaf = leaf_part tree f found in
-      same_parts (Some f, Some f) parts rest (leaf, leaf.0)
-  parts_valid (bodies.Leaf tree) parts is =
-      let (f, found, rest) = got (part_of space cube tree) (λ f. Ok (Some f, None)) parts is in
-      same_parts (Some f, None) parts rest (leaf_part tree f found, tt)
-  parts_valid (bodies.Cons tree) parts is =
+  parts_valid : (sets : Sets) (body : BodyText) (parts : Parts) → parts_of space cube sets body ≡ Ok parts → AreParts parts
+  parts_valid sets (bodies.Both tree) parts is =
+      let (f, found, more) = got (part_of space cube sets tree) (λ f. part_of space cube [] tree >>= (λ g. Ok (Some f, Some g))) parts is in
+      let (g, other, rest) = got (part_of space cube [] tree) (λ g. Ok (Some f, Some g)) parts more in
+      same_parts (Some f, Some g) parts rest (leaf_part sets tree f found, (leaf_part [] tree g other).0)
+  parts_valid sets (bodies.Leaf tree) parts is =
+      let (f, found, rest) = got (part_of space cube sets tree) (λ f. Ok (Some f, None)) parts is in
+      same_parts (Some f, None) parts rest (leaf_part sets tree f found, tt)
+  parts_valid sets (bodies.Cons tree) parts is =
       let (g, found, rest) = got (consolidated_of space cube tree) (λ g. Ok (None, Some g)) parts is in
       same_parts (None, Some g) parts rest (tt, consolidated_part tree g found)
-  parts_valid (bodies.LeafCons leaf cons) parts is =
-      let (f, found, more) = got (part_of space cube leaf) (λ f. consolidated_of space cube cons >>= (λ g. Ok (Some f, Some g))) parts is in
+  parts_valid sets (bodies.LeafCons leaf cons) parts is =
+      let (f, found, more) = got (part_of space cube sets leaf) (λ f. consolidated_of space cube cons >>= (λ g. Ok (Some f, Some g))) parts is in
       let (g, other, rest) = got (consolidated_of space cube cons) (λ g. Ok (Some f, Some g)) parts more in
-      same_parts (Some f, Some g) parts rest (leaf_part leaf f found, consolidated_part cons g other)
-  parts_valid (bodies.ConsLeaf cons leaf) parts is =
-      let (g, other, more) = got (consolidated_of space cube cons) (λ g. part_of space cube leaf >>= (λ f. Ok (Some f, Some g))) parts is in
-      let (f, found, rest) = got (part_of space cube leaf) (λ f. Ok (Some f, Some g)) parts more in
-      same_parts (Some f, Some g) parts rest (leaf_part leaf f found, consolidated_part cons g other)
+      same_parts (Some f, Some g) parts rest (leaf_part sets leaf f found, consolidated_part cons g other)
+  parts_valid sets (bodies.ConsLeaf cons leaf) parts is =
+      let (g, other, more) = got (consolidated_of space cube cons) (λ g. part_of space cube sets leaf >>= (λ f. Ok (Some f, Some g))) parts is in
+      let (f, found, rest) = got (part_of space cube sets leaf) (λ f. Ok (Some f, Some g)) parts more in
+      same_parts (Some f, Some g) parts rest (leaf_part sets leaf f found, consolidated_part cons g other)
 
   -- what holds of a statement, whatever is counted of it
   abbrev IsFormed : Statement → Type 0
@@ -80,11 +81,11 @@ module _ (space : Layout) (cube : ℕ) (valid : IsSpace space) (low : cube < len
   statement_valid : (text : StatementText) (statement : Statement) → statement_of space cube text ≡ Ok statement → IsFormed statement
   unfolding statement_of
   statement_valid text statement is =
-      let (cells, first, more) = got (area_of space cube text.area) (λ cells. parts_of space cube text.body >>= (λ parts. Ok (record { area = cells; leaf = parts.0; cons = parts.1; form = form_of text.body }))) statement is in
-      let (parts, second, rest) = got (parts_of space cube text.body) (λ parts. Ok (record { area = cells; leaf = parts.0; cons = parts.1; form = form_of text.body })) statement more in
+      let (cells, first, more) = got (area_of space cube text.area) (λ cells. parts_of space cube cells.sets text.body >>= (λ parts. Ok (record { area = cells; leaf = parts.0; cons = parts.1; form = form_of text.body }))) statement is in
+      let (parts, second, rest) = got (parts_of space cube cells.sets text.body) (λ parts. Ok (record { area = cells; leaf = parts.0; cons = parts.1; form = form_of text.body })) statement more in
       let made : Statement = record { area = cells; leaf = parts.0; cons = parts.1; form = form_of text.body } in
       let same : made ≡ statement = cc rest in
-      subst IsFormed same (area_valid space cube text.area cells first, parts_valid text.body parts second)
+      subst IsFormed same (area_valid space cube text.area cells first, parts_valid cells.sets text.body parts second)
 
   statements_valid : (before : ℕ) (texts : List StatementText) (statements : List Statement) → statements_of space cube before texts ≡ Ok statements → All IsFormed statements
   statements_valid before [] statements is = let same : [] ≡ statements = cc is in subst (All IsFormed) same (All-nil IsFormed)

@@ -25,6 +25,7 @@ use Rattle.bind_areas.specs.Areas.{area_of}
 use Rattle.rule_bind.specs.declared.fault.BindAt.TheVariants as places
 use Rattle.rule_bind.specs.declared.standing.Standing.TheVariants as standings
 use Rattle.rule_bind.specs.Rules.{part_of, consolidated_of, Parts, parts_of, form_of, statement_of, target_of, feeders_to, feeders_of, standing_at, statements_of, all_feeders_of}
+use Rattle.rule_bind.specs.Sureness.{Sets}
 use Rattle.rule_bind.proofs.Got.{got, answer, unplaced}
 use Rattle.bind_laws.proofs.FormulaSizes.{IsCount, light}
 use Rattle.bind_laws.proofs.CountFacts.{reads_count, operands_count}
@@ -35,33 +36,34 @@ module _ (space : Layout) (cube : ℕ) where
     abbrev of_parts : Parts → ℕ
     of_parts parts = option_map_or of parts.0 0 + option_map_or of parts.1 0
 
-    part_light : (tree : Tree) (f : Formula) → part_of space cube tree ≡ Ok f → of f ≤ nodes tree
-    part_light tree f is = (light of of_truth counts space cube tree).value standings.Part f is
+    part_light : (sets : Sets) (tree : Tree) (f : Formula) → part_of space cube sets tree ≡ Ok f → of f ≤ nodes tree
+    part_light sets tree f is = (light of of_truth counts space cube sets tree).value standings.Part f is
 
     consolidated_light : (tree : Tree) (f : Formula) → consolidated_of space cube tree ≡ Ok f → of f ≤ nodes tree
-    consolidated_light tree f is = (light of of_truth counts space cube tree).value standings.ConsolidatedPart f is
+    consolidated_light tree f is = (light of of_truth counts space cube [] tree).value standings.ConsolidatedPart f is
 
     same_parts : (n : ℕ) (made parts : Parts) → answer made ≡ Ok parts → of_parts made ≤ n → of_parts parts ≤ n
     same_parts n made parts is few = let same : made ≡ parts = cc is in subst (λ p. of_parts p ≤ n) same few
 
-    parts_light : (body : BodyText) (parts : Parts) → parts_of space cube body ≡ Ok parts → of_parts parts ≤ body_nodes body + body_nodes body
-    parts_light (bodies.Both tree) parts is =
-        let (f, found, rest) = got (part_of space cube tree) (λ f. Ok (Some f, Some f)) parts is in
-        same_parts (nodes tree + nodes tree) (Some f, Some f) parts rest (omega (arith, part_light tree f found))
-    parts_light (bodies.Leaf tree) parts is =
-        let (f, found, rest) = got (part_of space cube tree) (λ f. Ok (Some f, None)) parts is in
-        same_parts (nodes tree + nodes tree) (Some f, None) parts rest (omega (arith, part_light tree f found))
-    parts_light (bodies.Cons tree) parts is =
+    parts_light : (sets : Sets) (body : BodyText) (parts : Parts) → parts_of space cube sets body ≡ Ok parts → of_parts parts ≤ body_nodes body + body_nodes body
+    parts_light sets (bodies.Both tree) parts is =
+        let (f, found, more) = got (part_of space cube sets tree) (λ f. part_of space cube [] tree >>= (λ g. Ok (Some f, Some g))) parts is in
+        let (g, other, rest) = got (part_of space cube [] tree) (λ g. Ok (Some f, Some g)) parts more in
+        same_parts (nodes tree + nodes tree) (Some f, Some g) parts rest (omega (arith, part_light sets tree f found, part_light [] tree g other))
+    parts_light sets (bodies.Leaf tree) parts is =
+        let (f, found, rest) = got (part_of space cube sets tree) (λ f. Ok (Some f, None)) parts is in
+        same_parts (nodes tree + nodes tree) (Some f, None) parts rest (omega (arith, part_light sets tree f found))
+    parts_light sets (bodies.Cons tree) parts is =
         let (g, found, rest) = got (consolidated_of space cube tree) (λ g. Ok (None, Some g)) parts is in
         same_parts (nodes tree + nodes tree) (None, Some g) parts rest (omega (arith, consolidated_light tree g found))
-    parts_light (bodies.LeafCons leaf cons) parts is =
-        let (f, found, more) = got (part_of space cube leaf) (λ f. consolidated_of space cube cons >>= (λ g. Ok (Some f, Some g))) parts is in
+    parts_light sets (bodies.LeafCons leaf cons) parts is =
+        let (f, found, more) = got (part_of space cube sets leaf) (λ f. consolidated_of space cube cons >>= (λ g. Ok (Some f, Some g))) parts is in
         let (g, other, rest) = got (consolidated_of space cube cons) (λ g. Ok (Some f, Some g)) parts more in
-        same_parts (body_nodes (bodies.LeafCons leaf cons) + body_nodes (bodies.LeafCons leaf cons)) (Some f, Some g) parts rest (omega (arith, part_light leaf f found, consolidated_light cons g other))
-    parts_light (bodies.ConsLeaf cons leaf) parts is =
-        let (g, other, more) = got (consolidated_of space cube cons) (λ g. part_of space cube leaf >>= (λ f. Ok (Some f, Some g))) parts is in
-        let (f, found, rest) = got (part_of space cube leaf) (λ f. Ok (Some f, Some g)) parts more in
-        same_parts (body_nodes (bodies.ConsLeaf cons leaf) + body_nodes (bodies.ConsLeaf cons leaf)) (Some f, Some g) parts rest (omega (arith, part_light leaf f found, consolidated_light cons g other))
+        same_parts (body_nodes (bodies.LeafCons leaf cons) + body_nodes (bodies.LeafCons leaf cons)) (Some f, Some g) parts rest (omega (arith, part_light sets leaf f found, consolidated_light cons g other))
+    parts_light sets (bodies.ConsLeaf cons leaf) parts is =
+        let (g, other, more) = got (consolidated_of space cube cons) (λ g. part_of space cube sets leaf >>= (λ f. Ok (Some f, Some g))) parts is in
+        let (f, found, rest) = got (part_of space cube sets leaf) (λ f. Ok (Some f, Some g)) parts more in
+        same_parts (body_nodes (bodies.ConsLeaf cons leaf) + body_nodes (bodies.ConsLeaf cons leaf)) (Some f, Some g) parts rest (omega (arith, part_light sets leaf f found, consolidated_light cons g other))
 
   -- what a statement reads in both parts, and its operands
   pub record IsCounted (statement : Statement) : Type 0 where
@@ -71,12 +73,12 @@ module _ (space : Layout) (cube : ℕ) where
   statement_counted : (text : StatementText) (statement : Statement) → body_nodes text.body ≤ most_text_bytes → statement_of space cube text ≡ Ok statement → IsCounted statement
   unfolding statement_of most_text_bytes
   statement_counted text statement small is =
-      let (cells, first, more) = got (area_of space cube text.area) (λ cells. parts_of space cube text.body >>= (λ parts. Ok (record { area = cells; leaf = parts.0; cons = parts.1; form = form_of text.body }))) statement is in
-      let (parts, second, rest) = got (parts_of space cube text.body) (λ parts. Ok (record { area = cells; leaf = parts.0; cons = parts.1; form = form_of text.body })) statement more in
+      let (cells, first, more) = got (area_of space cube text.area) (λ cells. parts_of space cube cells.sets text.body >>= (λ parts. Ok (record { area = cells; leaf = parts.0; cons = parts.1; form = form_of text.body }))) statement is in
+      let (parts, second, rest) = got (parts_of space cube cells.sets text.body) (λ parts. Ok (record { area = cells; leaf = parts.0; cons = parts.1; form = form_of text.body })) statement more in
       let made : Statement = record { area = cells; leaf = parts.0; cons = parts.1; form = form_of text.body } in
       let same : made ≡ statement = cc rest in
-      let read = parts_light (λ f. length (precedents f)) (λ q. length (truth_precedents q)) reads_count text.body parts second in
-      let had = parts_light operands operands_of_truth operands_count text.body parts second in
+      let read = parts_light (λ f. length (precedents f)) (λ q. length (truth_precedents q)) reads_count cells.sets text.body parts second in
+      let had = parts_light operands operands_of_truth operands_count cells.sets text.body parts second in
       subst IsCounted same (record { read = omega (arith, read, small); operands = omega (arith, had, small) })
 
   -- as many as the texts have, and each can be counted

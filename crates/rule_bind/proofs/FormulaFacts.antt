@@ -23,96 +23,97 @@ use Rattle.rule_bind.specs.declared.standing.Standing.{Standing}
 use Rattle.rule_bind.specs.declared.standing.Standing.TheVariants.{Within}
 use Rattle.rule_bind.specs.Functions.{function_of, operator_of}
 use Rattle.rule_bind.specs.Formulas.{Meanings, Meant, meanings, meanings_step, meant, value_of, truth_of, call_value, binary, operator_value, operator_truth}
+use Rattle.rule_bind.specs.Sureness.{Sets}
 
-module _ (space : Layout) (cube : ℕ) where
-  pub by_layer : (layer : Tree-F Tree) → meanings space cube (roll-Tree layer) ≡ meanings_step space cube (map-Tree Tree Meant (meant space cube) layer)
+module _ (space : Layout) (cube : ℕ) (sets : Sets) where
+  pub by_layer : (layer : Tree-F Tree) → meanings space cube sets (roll-Tree layer) ≡ meanings_step space cube sets (map-Tree Tree Meant (meant space cube sets) layer)
   unfolding meanings
-  by_layer layer = para-roll-Tree Meanings (meanings_step space cube) layer
+  by_layer layer = para-roll-Tree Meanings (meanings_step space cube sets) layer
 
-  pub means_number : (k : ℤ) → meanings space cube (trees.Number k) ≡ meanings_step space cube (Tree-F.Number k)
-  means_number k = ap (meanings space cube) (sym (rolls-Number k)) ∙ by_layer (Tree-F.Number k)
+  pub means_number : (k : ℤ) → meanings space cube sets (trees.Number k) ≡ meanings_step space cube sets (Tree-F.Number k)
+  means_number k = ap (meanings space cube sets) (sym (rolls-Number k)) ∙ by_layer (Tree-F.Number k)
 
-  pub means_text : (bytes : List ℕ) → meanings space cube (trees.Text bytes) ≡ meanings_step space cube (Tree-F.Text bytes)
-  means_text bytes = ap (meanings space cube) (sym (rolls-Text bytes)) ∙ by_layer (Tree-F.Text bytes)
+  pub means_text : (bytes : List ℕ) → meanings space cube sets (trees.Text bytes) ≡ meanings_step space cube sets (Tree-F.Text bytes)
+  means_text bytes = ap (meanings space cube sets) (sym (rolls-Text bytes)) ∙ by_layer (Tree-F.Text bytes)
 
-  pub means_current : (dim : List ℕ) → meanings space cube (trees.Current dim) ≡ meanings_step space cube (Tree-F.Current dim)
-  means_current dim = ap (meanings space cube) (sym (rolls-Current dim)) ∙ by_layer (Tree-F.Current dim)
+  pub means_current : (dim : List ℕ) → meanings space cube sets (trees.Current dim) ≡ meanings_step space cube sets (Tree-F.Current dim)
+  means_current dim = ap (meanings space cube sets) (sym (rolls-Current dim)) ∙ by_layer (Tree-F.Current dim)
 
-  pub means_bracket : (simples : List SimpleText) → meanings space cube (trees.Bracket simples) ≡ meanings_step space cube (Tree-F.Bracket simples)
-  means_bracket simples = ap (meanings space cube) (sym (rolls-Bracket simples)) ∙ by_layer (Tree-F.Bracket simples)
+  pub means_bracket : (simples : List SimpleText) → meanings space cube sets (trees.Bracket simples) ≡ meanings_step space cube sets (Tree-F.Bracket simples)
+  means_bracket simples = ap (meanings space cube sets) (sym (rolls-Bracket simples)) ∙ by_layer (Tree-F.Bracket simples)
 
-  pub means_stet : meanings space cube trees.Stet ≡ meanings_step space cube Tree-F.Stet
-  means_stet = ap (meanings space cube) (sym rolls-Stet) ∙ by_layer Tree-F.Stet
+  pub means_stet : meanings space cube sets trees.Stet ≡ meanings_step space cube sets Tree-F.Stet
+  means_stet = ap (meanings space cube sets) (sym rolls-Stet) ∙ by_layer Tree-F.Stet
 
-  pub means_continue : meanings space cube trees.Continue ≡ meanings_step space cube Tree-F.Continue
-  means_continue = ap (meanings space cube) (sym rolls-Continue) ∙ by_layer Tree-F.Continue
+  pub means_continue : meanings space cube sets trees.Continue ≡ meanings_step space cube sets Tree-F.Continue
+  means_continue = ap (meanings space cube sets) (sym rolls-Continue) ∙ by_layer Tree-F.Continue
 
-  pub means_call : (word : List ℕ) (arguments : List Tree) → meanings space cube (trees.Call word arguments) ≡ meanings_step space cube (Tree-F.Call word (map (meant space cube) arguments))
-  means_call word arguments = ap (meanings space cube) (sym (rolls-Call word arguments)) ∙ by_layer (Tree-F.Call word arguments)
+  pub means_call : (word : List ℕ) (arguments : List Tree) → meanings space cube sets (trees.Call word arguments) ≡ meanings_step space cube sets (Tree-F.Call word (map (meant space cube sets) arguments))
+  means_call word arguments = ap (meanings space cube sets) (sym (rolls-Call word arguments)) ∙ by_layer (Tree-F.Call word arguments)
 
-  pub means_minus : (e : Tree) → meanings space cube (trees.Minus e) ≡ meanings_step space cube (Tree-F.Minus (meant space cube e))
-  means_minus e = ap (meanings space cube) (sym (rolls-Minus e)) ∙ by_layer (Tree-F.Minus e)
+  pub means_minus : (e : Tree) → meanings space cube sets (trees.Minus e) ≡ meanings_step space cube sets (Tree-F.Minus (meant space cube sets e))
+  means_minus e = ap (meanings space cube sets) (sym (rolls-Minus e)) ∙ by_layer (Tree-F.Minus e)
 
-  pub means_not : (e : Tree) → meanings space cube (trees.Not e) ≡ meanings_step space cube (Tree-F.Not (meant space cube e))
-  means_not e = ap (meanings space cube) (sym (rolls-Not e)) ∙ by_layer (Tree-F.Not e)
+  pub means_not : (e : Tree) → meanings space cube sets (trees.Not e) ≡ meanings_step space cube sets (Tree-F.Not (meant space cube sets e))
+  means_not e = ap (meanings space cube sets) (sym (rolls-Not e)) ∙ by_layer (Tree-F.Not e)
 
-  pub means_binary : (op : TreeOp) (left right : Tree) → meanings space cube (trees.Binary op left right) ≡ meanings_step space cube (Tree-F.Binary op (meant space cube left) (meant space cube right))
-  means_binary op left right = ap (meanings space cube) (sym (rolls-Binary op left right)) ∙ by_layer (Tree-F.Binary op left right)
+  pub means_binary : (op : TreeOp) (left right : Tree) → meanings space cube sets (trees.Binary op left right) ≡ meanings_step space cube sets (Tree-F.Binary op (meant space cube sets left) (meant space cube sets right))
+  means_binary op left right = ap (meanings space cube sets) (sym (rolls-Binary op left right)) ∙ by_layer (Tree-F.Binary op left right)
 
   -- the arguments of a call are its trees
-  pub trees_again : (arguments : List Tree) → map (λ m. m.0) (map (meant space cube) arguments) ≡ arguments
+  pub trees_again : (arguments : List Tree) → map (λ m. m.0) (map (meant space cube sets) arguments) ≡ arguments
   trees_again [] = refl
   trees_again (tree ∷ arguments) = ap (λ l. tree ∷ l) (trees_again arguments)
 
   -- a call, whose parts the code has taken out
   pub call_is : (at : Standing) (tree : Tree) (word w : List ℕ) (arguments given : List Tree) (f : Function) (answer : Result Formula BindCause) → tree ≡ trees.Call word arguments → w ≡ word → given ≡ arguments → f ≡ function_of w
-      → Answers (call_value space cube at f (map (meant space cube) given)) answer → Answers (value_of space cube at tree) answer
+      → Answers (call_value space cube at f (map (meant space cube sets) given)) answer → Answers (value_of space cube sets at tree) answer
   call_is at tree word w arguments given f answer is same_word same function h =
-      let whole = ap (λ m. m.value at) (ap (meanings space cube) is ∙ means_call word arguments) in
-      let parts = ap (λ g. call_value space cube at g (map (meant space cube) arguments)) (function ∙ ap function_of same_word) in
+      let whole = ap (λ m. m.value at) (ap (meanings space cube sets) is ∙ means_call word arguments) in
+      let parts = ap (λ g. call_value space cube at g (map (meant space cube sets) arguments)) (function ∙ ap function_of same_word) in
       rw (whole, sym parts, sym same) h
 
   operation_is : (at : Standing) (tree left right l r : Tree) (sign : TreeOp) (o : Operator) (op : Op) → tree ≡ trees.Binary sign left right → o ≡ operator_of sign → o ≡ operators.Operation op → l ≡ left → r ≡ right
-      → value_of space cube at tree ≡ binary op (meant space cube l) (meant space cube r)
+      → value_of space cube sets at tree ≡ binary op (meant space cube sets l) (meant space cube sets r)
   operation_is at tree left right l r sign o op is told known same_left same_right =
-      ap (λ m. m.value at) (ap (meanings space cube) is ∙ means_binary sign left right)
-      ∙ ap (λ x. operator_value x (meant space cube left) (meant space cube right)) (sym told ∙ known)
-      ∙ ap (λ t. binary op (meant space cube t) (meant space cube right)) (sym same_left)
-      ∙ ap (λ t. binary op (meant space cube l) (meant space cube t)) (sym same_right)
+      ap (λ m. m.value at) (ap (meanings space cube sets) is ∙ means_binary sign left right)
+      ∙ ap (λ x. operator_value x (meant space cube sets left) (meant space cube sets right)) (sym told ∙ known)
+      ∙ ap (λ t. binary op (meant space cube sets t) (meant space cube sets right)) (sym same_left)
+      ∙ ap (λ t. binary op (meant space cube sets l) (meant space cube sets t)) (sym same_right)
 
   pub left_fails : (at : Standing) (tree left right l : Tree) (sign : TreeOp) (o : Operator) (op : Op) (cause : BindCause) → tree ≡ trees.Binary sign left right → o ≡ operator_of sign → o ≡ operators.Operation op → l ≡ left
-      → Answers (value_of space cube Within l) (Err cause) → Answers (value_of space cube at tree) (Err cause)
+      → Answers (value_of space cube sets Within l) (Err cause) → Answers (value_of space cube sets at tree) (Err cause)
   left_fails at tree left right l sign o op cause is told known same h =
       rw (operation_is at tree left right l right sign o op is told known same refl)
-      (stops (value_of space cube Within l) (λ a. value_of space cube Within right >>= (λ b. Ok (formulas.Binary op a b))) cause h)
+      (stops (value_of space cube sets Within l) (λ a. value_of space cube sets Within right >>= (λ b. Ok (formulas.Binary op a b))) cause h)
 
   pub right_fails : (at : Standing) (tree left right l r : Tree) (sign : TreeOp) (o : Operator) (op : Op) (a : Formula) (cause : BindCause) → tree ≡ trees.Binary sign left right → o ≡ operator_of sign → o ≡ operators.Operation op → l ≡ left → r ≡ right
-      → value_of space cube Within l ≡ Ok a → Answers (value_of space cube Within r) (Err cause) → Answers (value_of space cube at tree) (Err cause)
+      → value_of space cube sets Within l ≡ Ok a → Answers (value_of space cube sets Within r) (Err cause) → Answers (value_of space cube sets at tree) (Err cause)
   right_fails at tree left right l r sign o op a cause is told known same_left same_right first h =
       rw (operation_is at tree left right l r sign o op is told known same_left same_right, first)
-      (stops (value_of space cube Within r) (λ b. Ok (formulas.Binary op a b)) cause h)
+      (stops (value_of space cube sets Within r) (λ b. Ok (formulas.Binary op a b)) cause h)
 
   pub both_hold : (at : Standing) (tree left right l r : Tree) (sign : TreeOp) (o : Operator) (op : Op) (a b : Formula) (answer : Result Formula BindCause) → tree ≡ trees.Binary sign left right → o ≡ operator_of sign → o ≡ operators.Operation op → l ≡ left → r ≡ right
-      → value_of space cube Within l ≡ Ok a → value_of space cube Within r ≡ Ok b → Answers (Ok (formulas.Binary op a b)) answer → Answers (value_of space cube at tree) answer
+      → value_of space cube sets Within l ≡ Ok a → value_of space cube sets Within r ≡ Ok b → Answers (Ok (formulas.Binary op a b)) answer → Answers (value_of space cube sets at tree) answer
   both_hold at tree left right l r sign o op a b answer is told known same_left same_right first second h =
       rw (operation_is at tree left right l r sign o op is told known same_left same_right, first, second) h
 
   truth_is : (tree left right l r : Tree) (sign : TreeOp) (o known : Operator) → tree ≡ trees.Binary sign left right → o ≡ operator_of sign → o ≡ known → l ≡ left → r ≡ right
-      → truth_of space cube tree ≡ operator_truth space cube known (meant space cube l) (meant space cube r)
+      → truth_of space cube sets tree ≡ operator_truth space cube sets known (meant space cube sets l) (meant space cube sets r)
   truth_is tree left right l r sign o known is told same same_left same_right =
-      ap (λ m. m.truth) (ap (meanings space cube) is ∙ means_binary sign left right)
-      ∙ ap (λ x. operator_truth space cube x (meant space cube left) (meant space cube right)) (sym told ∙ same)
-      ∙ ap (λ t. operator_truth space cube known (meant space cube t) (meant space cube right)) (sym same_left)
-      ∙ ap (λ t. operator_truth space cube known (meant space cube l) (meant space cube t)) (sym same_right)
+      ap (λ m. m.truth) (ap (meanings space cube sets) is ∙ means_binary sign left right)
+      ∙ ap (λ x. operator_truth space cube sets x (meant space cube sets left) (meant space cube sets right)) (sym told ∙ same)
+      ∙ ap (λ t. operator_truth space cube sets known (meant space cube sets t) (meant space cube sets right)) (sym same_left)
+      ∙ ap (λ t. operator_truth space cube sets known (meant space cube sets l) (meant space cube sets t)) (sym same_right)
 
   pub and_fails : (tree left right l r : Tree) (sign : TreeOp) (o : Operator) (p : Truth) (cause : BindCause) → tree ≡ trees.Binary sign left right → o ≡ operator_of sign → o ≡ operators.And → l ≡ left → r ≡ right
-      → truth_of space cube l ≡ Ok p → Answers (truth_of space cube r) (Err cause) → Answers (truth_of space cube tree) (Err cause)
+      → truth_of space cube sets l ≡ Ok p → Answers (truth_of space cube sets r) (Err cause) → Answers (truth_of space cube sets tree) (Err cause)
   and_fails tree left right l r sign o p cause is told known same_left same_right first h =
-      rw (truth_is tree left right l r sign o operators.And is told known same_left same_right, first) (stops (truth_of space cube r) (λ q. Ok (truths.And p q)) cause h)
+      rw (truth_is tree left right l r sign o operators.And is told known same_left same_right, first) (stops (truth_of space cube sets r) (λ q. Ok (truths.And p q)) cause h)
 
   pub or_fails : (tree left right l r : Tree) (sign : TreeOp) (o : Operator) (p : Truth) (cause : BindCause) → tree ≡ trees.Binary sign left right → o ≡ operator_of sign → o ≡ operators.Or → l ≡ left → r ≡ right
-      → truth_of space cube l ≡ Ok p → Answers (truth_of space cube r) (Err cause) → Answers (truth_of space cube tree) (Err cause)
+      → truth_of space cube sets l ≡ Ok p → Answers (truth_of space cube sets r) (Err cause) → Answers (truth_of space cube sets tree) (Err cause)
   or_fails tree left right l r sign o p cause is told known same_left same_right first h =
-      rw (truth_is tree left right l r sign o operators.Or is told known same_left same_right, first) (stops (truth_of space cube r) (λ q. Ok (truths.Or p q)) cause h)
+      rw (truth_is tree left right l r sign o operators.Or is told known same_left same_right, first) (stops (truth_of space cube sets r) (λ q. Ok (truths.Or p q)) cause h)
 
 pub ruleset means = (means_number, means_text, means_current, means_bracket, means_stet, means_continue, means_call, means_minus, means_not, means_binary, trees_again)

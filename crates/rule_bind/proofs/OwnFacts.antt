@@ -6,7 +6,6 @@ use Rattle.cube_space.specs.Layout.{Layout}
 use Rattle.rule_laws.specs.declared.formula.Formula.{Formula}
 use Rattle.rule_laws.specs.declared.formula.Formula.TheVariants as formulas
 use Rattle.rule_laws.specs.declared.formula.Truth.{Truth}
-use Rattle.rule_laws.specs.declared.formula.Truth.TheVariants as truths
 use Rattle.rule_laws.specs.declared.operation.Fun.TheVariants as funs
 use Rattle.rule_laws.specs.declared.operation.Rel.{Rel}
 use Rattle.rule_tree.specs.declared.tree.Tree.{Tree}
@@ -16,6 +15,7 @@ use Rattle.bind_arguments.specs.declared.element_function.ElementFunction.{Eleme
 use Rattle.bind_arguments.specs.declared.element_function.ElementFunction.TheVariants as functions
 use Rattle.rule_bind.specs.OwnNumbers.{axis_named, own_place, element_at, attribute_at, table_at, under, plain_call, upper_call, component_call, attribute_call, own_call}
 use Rattle.rule_bind.specs.Texts.{Side, side_of, shared_place, compared, texts_truth}
+use Rattle.rule_bind.specs.Sureness.{Sets, comparison}
 use Rattle.rule_bind.specs.DimensionSize.{size_named, counted, size_call}
 use Rattle.rule_bind.specs.declared.function.OwnFunction.{OwnFunction}
 use Rattle.rule_bind.specs.declared.function.OwnFunction.TheVariants as own
@@ -24,8 +24,8 @@ use Rattle.rule_bind.proofs.Got.{got, answer}
 abbrev pub IsTable : Formula → Type 0
 IsTable f = (place : ℕ) × (table : List ℤ) × (f ≡ formulas.Table place table)
 
-abbrev pub IsTableTruth : Truth → Type 0
-IsTableTruth q = (rel : Rel) × (place : ℕ) × (table : List ℤ) × (k : ℤ) × (q ≡ truths.Compare rel (formulas.Table place table) (formulas.Number k))
+abbrev pub IsTableTruth : Layout → ℕ → Sets → Truth → Type 0
+IsTableTruth space cube sets q = (rel : Rel) × (place : ℕ) × (table : List ℤ) × (k : ℤ) × (q ≡ comparison space cube sets rel (formulas.Table place table) (formulas.Number k))
 
 abbrev pub IsCounted : Formula → Type 0
 IsCounted f = (k : ℤ) × (f ≡ formulas.Unary funs.Trunc (formulas.Number k))
@@ -79,19 +79,19 @@ module _ (space : Layout) (cube : ℕ) where
   call_table own.ParentCount trees f is = plain functions.ParentCount trees f is
 
   -- the rest of what a comparison of texts means, behind both of them, and behind the first
-  abbrev placed_truth : Rel → Side → Side → Meaning Truth
-  placed_truth rel text other = shared_place text.0 other.0 >>= (λ place. answer (compared space cube rel place (functions.Same text.1 other.1)))
+  abbrev placed_truth : Sets → Rel → Side → Side → Meaning Truth
+  placed_truth sets rel text other = shared_place text.0 other.0 >>= (λ place. answer (compared space cube sets rel place (functions.Same text.1 other.1)))
 
-  abbrev other_truth : Rel → Tree → Side → Meaning Truth
-  other_truth rel right text = side_of space cube right >>= placed_truth rel text
+  abbrev other_truth : Sets → Rel → Tree → Side → Meaning Truth
+  other_truth sets rel right text = side_of space cube right >>= placed_truth sets rel text
 
-  pub texts_table : (rel : Rel) (left right : Tree) (q : Truth) → texts_truth space cube rel left right ≡ Ok q → IsTableTruth q
+  pub texts_table : (sets : Sets) (rel : Rel) (left right : Tree) (q : Truth) → texts_truth space cube sets rel left right ≡ Ok q → IsTableTruth space cube sets q
   unfolding texts_truth
-  texts_table rel left right q is =
-      let (text, first, many) = got (side_of space cube left) (other_truth rel right) q is in
-      let (other, second, more) = got (side_of space cube right) (placed_truth rel text) q many in
-      let (place, third, rest) = got (shared_place text.0 other.0) (λ place. answer (compared space cube rel place (functions.Same text.1 other.1))) q more in
-      let same : compared space cube rel place (functions.Same text.1 other.1) ≡ q = cc rest in
+  texts_table sets rel left right q is =
+      let (text, first, many) = got (side_of space cube left) (other_truth sets rel right) q is in
+      let (other, second, more) = got (side_of space cube right) (placed_truth sets rel text) q many in
+      let (place, third, rest) = got (shared_place text.0 other.0) (λ place. answer (compared space cube sets rel place (functions.Same text.1 other.1))) q more in
+      let same : compared space cube sets rel place (functions.Same text.1 other.1) ≡ q = cc rest in
       (rel, place, numbers_at space cube place (functions.Same text.1 other.1), pos unit, sym same)
 
 pub call_counted : (space : Layout) (trees : List Tree) (f : Formula) → size_call space trees ≡ Ok f → IsCounted f

@@ -24,6 +24,7 @@ use Rattle.rule_bind.specs.Functions.{function_of, operator_of}
 use Rattle.rule_bind.specs.References.{db_of, children_of}
 use Rattle.rule_bind.specs.OwnNumbers.{own_call}
 use Rattle.rule_bind.specs.Texts.{texts_truth}
+use Rattle.rule_bind.specs.Sureness.{Sets, comparison}
 use Rattle.rule_bind.specs.DimensionSize.{size_call}
 
 -- what a formula means as a value, by where it stands, and as a truth
@@ -110,40 +111,40 @@ value_step space cube at (Tree-F.Minus m) = unary funs.Minus m
 value_step space cube at (Tree-F.Not m) = Err Unsupported
 value_step space cube at (Tree-F.Binary op left right) = operator_value (operator_of op) left right
 
-abbrev pub operator_truth : Layout → ℕ → Operator → Meant → Meant → Meaning Truth
-operator_truth space cube (operators.Comparison rel) left right = do
+abbrev pub operator_truth : Layout → ℕ → Sets → Operator → Meant → Meant → Meaning Truth
+operator_truth space cube sets (operators.Comparison rel) left right = do
   a ← left.1.value Within
   b ← right.1.value Within
-  done (truths.Compare rel a b)
-operator_truth space cube operators.And left right = do
+  done (comparison space cube sets rel a b)
+operator_truth space cube sets operators.And left right = do
   p ← left.1.truth
   q ← right.1.truth
   done (truths.And p q)
-operator_truth space cube operators.Or left right = do
+operator_truth space cube sets operators.Or left right = do
   p ← left.1.truth
   q ← right.1.truth
   done (truths.Or p q)
-operator_truth space cube (operators.Texts rel) left right = texts_truth space cube rel left.0 right.0
-operator_truth space cube (operators.Operation op) left right = Err Unsupported
+operator_truth space cube sets (operators.Texts rel) left right = texts_truth space cube sets rel left.0 right.0
+operator_truth space cube sets (operators.Operation op) left right = Err Unsupported
 
-abbrev pub truth_step : Layout → ℕ → Tree-F Meant → Meaning Truth
-truth_step space cube (Tree-F.Not m) = do q ← m.1.truth; done (truths.Not q)
-truth_step space cube (Tree-F.Binary op left right) = operator_truth space cube (operator_of op) left right
-truth_step space cube _ = Err Unsupported
+abbrev pub truth_step : Layout → ℕ → Sets → Tree-F Meant → Meaning Truth
+truth_step space cube sets (Tree-F.Not m) = do q ← m.1.truth; done (truths.Not q)
+truth_step space cube sets (Tree-F.Binary op left right) = operator_truth space cube sets (operator_of op) left right
+truth_step space cube sets _ = Err Unsupported
 
-abbrev pub meanings_step : Layout → ℕ → Tree-F Meant → Meanings
-meanings_step space cube layer =
-    record { value = λ at. value_step space cube at layer; truth = truth_step space cube layer }
+abbrev pub meanings_step : Layout → ℕ → Sets → Tree-F Meant → Meanings
+meanings_step space cube sets layer =
+    record { value = λ at. value_step space cube at layer; truth = truth_step space cube sets layer }
 
--- what a formula in a statement of a cube means
-unfoldable pub meanings : Layout → ℕ → Tree → Meanings
-meanings space cube = para-Tree Meanings (meanings_step space cube)
+-- what a formula in a statement of a cube means, by what is known of the statement's area
+unfoldable pub meanings : Layout → ℕ → Sets → Tree → Meanings
+meanings space cube sets = para-Tree Meanings (meanings_step space cube sets)
 
-abbrev pub value_of : Layout → ℕ → Standing → Tree → Meaning Formula
-value_of space cube at tree = (meanings space cube tree).value at
+abbrev pub value_of : Layout → ℕ → Sets → Standing → Tree → Meaning Formula
+value_of space cube sets at tree = (meanings space cube sets tree).value at
 
-abbrev pub truth_of : Layout → ℕ → Tree → Meaning Truth
-truth_of space cube tree = (meanings space cube tree).truth
+abbrev pub truth_of : Layout → ℕ → Sets → Tree → Meaning Truth
+truth_of space cube sets tree = (meanings space cube sets tree).truth
 
-abbrev pub meant : Layout → ℕ → Tree → Meant
-meant space cube tree = (tree, meanings space cube tree)
+abbrev pub meant : Layout → ℕ → Sets → Tree → Meant
+meant space cube sets tree = (tree, meanings space cube sets tree)

@@ -26,29 +26,35 @@ use Rattle.rule_bind.specs.declared.fault.BindFault.{BindFault}
 use Rattle.rule_bind.specs.declared.standing.Standing.TheVariants as standings
 use Rattle.rule_bind.specs.References.{db_of}
 use Rattle.rule_bind.specs.Formulas.{value_of}
+use Rattle.rule_bind.specs.Sureness.{Sets}
 
--- a formula for leaf cells or for both kinds, and one for consolidated cells alone
-abbrev pub part_of : Layout → ℕ → Tree → Meaning Formula
-part_of space cube tree = value_of space cube standings.Part tree
+-- a formula for leaf cells or for both kinds, by what is known of the statement's area, and one for consolidated cells
+-- alone
+abbrev pub part_of : Layout → ℕ → Sets → Tree → Meaning Formula
+part_of space cube sets tree = value_of space cube sets standings.Part tree
 
 abbrev pub consolidated_of : Layout → ℕ → Tree → Meaning Formula
-consolidated_of space cube tree = value_of space cube standings.ConsolidatedPart tree
+consolidated_of space cube tree = value_of space cube [] standings.ConsolidatedPart tree
 
 -- the parts of a statement, for leaf cells and for consolidated cells, in the order in which they are written
 abbrev pub Parts : Type 0
 Parts = Option Formula × Option Formula
 
-abbrev pub parts_of : Layout → ℕ → BodyText → Meaning Parts
-parts_of space cube (bodies.Both tree) = do f ← part_of space cube tree; done (Some f, Some f)
-parts_of space cube (bodies.Leaf tree) = do f ← part_of space cube tree; done (Some f, None)
-parts_of space cube (bodies.Cons tree) = do g ← consolidated_of space cube tree; done (None, Some g)
-parts_of space cube (bodies.LeafCons leaf cons) = do
-  f ← part_of space cube leaf
+-- a formula for both kinds is bound once for each: of the area of consolidated cells nothing is known
+abbrev pub parts_of : Layout → ℕ → Sets → BodyText → Meaning Parts
+parts_of space cube sets (bodies.Both tree) = do
+  f ← part_of space cube sets tree
+  g ← part_of space cube [] tree
+  done (Some f, Some g)
+parts_of space cube sets (bodies.Leaf tree) = do f ← part_of space cube sets tree; done (Some f, None)
+parts_of space cube sets (bodies.Cons tree) = do g ← consolidated_of space cube tree; done (None, Some g)
+parts_of space cube sets (bodies.LeafCons leaf cons) = do
+  f ← part_of space cube sets leaf
   g ← consolidated_of space cube cons
   done (Some f, Some g)
-parts_of space cube (bodies.ConsLeaf cons leaf) = do
+parts_of space cube sets (bodies.ConsLeaf cons leaf) = do
   g ← consolidated_of space cube cons
-  f ← part_of space cube leaf
+  f ← part_of space cube sets leaf
   done (Some f, Some g)
 
 -- the part that stands first or alone
@@ -62,7 +68,7 @@ form_of (bodies.ConsLeaf cons leaf) = ConsFirst
 unfoldable pub statement_of : Layout → ℕ → StatementText → Meaning Statement
 statement_of space cube statement = do
   cells ← area_of space cube statement.area
-  parts ← parts_of space cube statement.body
+  parts ← parts_of space cube cells.sets statement.body
   done (record { area = cells; leaf = parts.0; cons = parts.1; form = form_of statement.body })
 
 -- a cell that a feeder feeds

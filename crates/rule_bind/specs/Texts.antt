@@ -7,7 +7,6 @@ use Rattle.cube_space.specs.Layout.{Layout, axes}
 use Rattle.cube_space.specs.Axes.{axis_called}
 use Rattle.rule_laws.specs.declared.formula.Formula.TheVariants as formulas
 use Rattle.rule_laws.specs.declared.formula.Truth.{Truth}
-use Rattle.rule_laws.specs.declared.formula.Truth.TheVariants as truths
 use Rattle.rule_laws.specs.declared.operation.Rel.{Rel}
 use Rattle.rule_tree.specs.declared.tree.Tree.{Tree, out-Tree}
 use Rattle.rule_tree.specs.declared.tree.Tree.TheOpen.{Tree-F}
@@ -18,6 +17,7 @@ use Rattle.bind_arguments.specs.declared.element_function.ElementFunction.TheVar
 use Rattle.bind_arguments.specs.declared.element_text.ElementText.{ElementText}
 use Rattle.bind_arguments.specs.declared.element_text.ElementText.TheVariants as texts
 use Rattle.rule_bind.specs.OwnNumbers.{axis_named, own_place, same_place, attribute_at, table_at}
+use Rattle.rule_bind.specs.Sureness.{Sets, comparison}
 
 -- the place of the dimension whose element has a text, where that isn't the same for all, and the text
 abbrev pub Side : Type 0
@@ -70,14 +70,14 @@ shared_place None (Some other) = done other
 shared_place None None = Err Unsupported
 
 -- whether a table is 1
-abbrev pub compared : Layout → ℕ → Rel → ℕ → ElementFunction → Truth
-compared space cube rel place function =
-    truths.Compare rel (table_at space cube place function) (formulas.Number (pos unit))
+abbrev pub compared : Layout → ℕ → Sets → Rel → ℕ → ElementFunction → Truth
+compared space cube sets rel place function =
+    comparison space cube sets rel (table_at space cube place function) (formulas.Number (pos unit))
 
 -- texts that are the same, by the relation =, or other ones, by <>
-unfoldable pub texts_truth : Layout → ℕ → Rel → Tree → Tree → Meaning Truth
-texts_truth space cube rel left right = do
+unfoldable pub texts_truth : Layout → ℕ → Sets → Rel → Tree → Tree → Meaning Truth
+texts_truth space cube sets rel left right = do
   text ← side_of space cube left
   other ← side_of space cube right
   place ← shared_place text.0 other.0
-  done (compared space cube rel place (functions.Same text.1 other.1))
+  done (compared space cube sets rel place (functions.Same text.1 other.1))

@@ -12,10 +12,12 @@ use crate::operator::{Operator, operator_of};
 use crate::own_numbers::own_call;
 use crate::reference::{children_of, db_of};
 use crate::standing::Standing;
+use crate::sureness::comparison;
 use crate::texts::texts_truth;
 use bind_areas::{BindCause, bind_bracket};
 use bind_arguments::BoundMaps;
 use cube_space::Space;
+use lists::ListOf;
 use rule_laws::{Formula, Fun, Op, Truth};
 use rule_tree::Tree;
 use sqlite_items::Boxed;
@@ -103,12 +105,13 @@ pub fn value_of(
     space: &Space,
     maps: &mut BoundMaps,
     cube: u32,
+    sets: &[Option<ListOf<u32>>],
     at: Standing,
     tree: &Tree,
 ) -> Result<Formula, BindCause>
     requires cube { cube < length space.now.cubes }
     requires maps { AreMapsIn space.now maps.old }
-    ensures answers { Answers (value_of space.now cube at tree.now) result }
+    ensures answers { Answers (value_of space.now cube sets.now at tree.now) result }
     ensures maps { AreMapsIn space.now maps.new }
 {
     match tree {
@@ -121,16 +124,19 @@ pub fn value_of(
         Tree::Continue => alone(Formula::Continue, at),
         Tree::Call(word, arguments) => {
             let function = function_of(word.as_slice());
-            call_of(alloc, space, maps, cube, at, function, arguments.as_slice())
+            let trees = arguments.as_slice();
+            call_of(alloc, space, maps, cube, sets, at, function, trees)
         }
         Tree::Minus(inner) => {
-            let inner = value_of(alloc, space, maps, cube, Standing::Within, inner.get())?;
+            let tree = inner.get();
+            let inner = value_of(alloc, space, maps, cube, sets, Standing::Within, tree)?;
             unary(alloc, Fun::Minus, inner)
         }
         Tree::Binary(op, left, right) => match operator_of(*op) {
             Operator::Operation(op) => {
-                let left = value_of(alloc, space, maps, cube, Standing::Within, left.get())?;
-                let right = value_of(alloc, space, maps, cube, Standing::Within, right.get())?;
+                let left = value_of(alloc, space, maps, cube, sets, Standing::Within, left.get())?;
+                let tree = right.get();
+                let right = value_of(alloc, space, maps, cube, sets, Standing::Within, tree)?;
                 binary(alloc, op, left, right)
             }
             _ => Err(BindCause::Unsupported),
@@ -149,36 +155,38 @@ pub fn truth_of(
     space: &Space,
     maps: &mut BoundMaps,
     cube: u32,
+    sets: &[Option<ListOf<u32>>],
     tree: &Tree,
 ) -> Result<Truth, BindCause>
     requires cube { cube < length space.now.cubes }
     requires maps { AreMapsIn space.now maps.old }
-    ensures answers { Answers (truth_of space.now cube tree.now) result }
+    ensures answers { Answers (truth_of space.now cube sets.now tree.now) result }
     ensures maps { AreMapsIn space.now maps.new }
 {
     match tree {
         Tree::Not(inner) => {
-            let inner = truth_of(alloc, space, maps, cube, inner.get())?;
+            let inner = truth_of(alloc, space, maps, cube, sets, inner.get())?;
             Ok(Truth::Not(Boxed::new(alloc, inner)?))
         }
         Tree::Binary(op, left, right) => match operator_of(*op) {
             Operator::Operation(_) => Err(BindCause::Unsupported),
             Operator::Comparison(rel) => {
-                let left = value_of(alloc, space, maps, cube, Standing::Within, left.get())?;
-                let right = value_of(alloc, space, maps, cube, Standing::Within, right.get())?;
-                Ok(Truth::Compare(rel, left, right))
+                let left = value_of(alloc, space, maps, cube, sets, Standing::Within, left.get())?;
+                let tree = right.get();
+                let right = value_of(alloc, space, maps, cube, sets, Standing::Within, tree)?;
+                Ok(comparison(space, cube, sets, rel, left, right))
             }
             Operator::Texts(rel) => {
-                texts_truth(alloc, space, maps, cube, rel, left.get(), right.get())
+                texts_truth(alloc, space, maps, cube, sets, rel, left.get(), right.get())
             }
             Operator::And => {
-                let left = truth_of(alloc, space, maps, cube, left.get())?;
-                let right = truth_of(alloc, space, maps, cube, right.get())?;
+                let left = truth_of(alloc, space, maps, cube, sets, left.get())?;
+                let right = truth_of(alloc, space, maps, cube, sets, right.get())?;
                 both(alloc, left, right)
             }
             Operator::Or => {
-                let left = truth_of(alloc, space, maps, cube, left.get())?;
-                let right = truth_of(alloc, space, maps, cube, right.get())?;
+                let left = truth_of(alloc, space, maps, cube, sets, left.get())?;
+                let right = truth_of(alloc, space, maps, cube, sets, right.get())?;
                 either(alloc, left, right)
             }
         },
@@ -201,6 +209,7 @@ fn call_of(
     space: &Space,
     maps: &mut BoundMaps,
     cube: u32,
+    sets: &[Option<ListOf<u32>>],
     at: Standing,
     function: Function,
     arguments: &[Tree],
@@ -208,13 +217,13 @@ fn call_of(
     requires cube { cube < length space.now.cubes }
     requires maps { AreMapsIn space.now maps.old }
     ensures answers { Answers (call_value space.now cube at function
-        (map (meant space.now cube) arguments.now)) result }
+        (map (meant space.now cube sets.now) arguments.now)) result }
     ensures maps { AreMapsIn space.now maps.new }
 {
     match function {
-        Function::If => choice_of(alloc, space, maps, cube, at, arguments),
-        Function::One(function) => one_of(alloc, space, maps, cube, function, arguments),
-        Function::Two(op) => two_of(alloc, space, maps, cube, op, arguments),
+        Function::If => choice_of(alloc, space, maps, cube, sets, at, arguments),
+        Function::One(function) => one_of(alloc, space, maps, cube, sets, function, arguments),
+        Function::Two(op) => two_of(alloc, space, maps, cube, sets, op, arguments),
         Function::Db => {
             let reference = db_of(alloc, space, maps, cube, arguments)?;
             Ok(Formula::Ref(reference))
@@ -237,19 +246,20 @@ fn choice_of(
     space: &Space,
     maps: &mut BoundMaps,
     cube: u32,
+    sets: &[Option<ListOf<u32>>],
     at: Standing,
     arguments: &[Tree],
 ) -> Result<Formula, BindCause>
     requires cube { cube < length space.now.cubes }
     requires maps { AreMapsIn space.now maps.old }
-    ensures answers { Answers (choice_call at (map (meant space.now cube) arguments.now)) result }
+    ensures answers { Answers (choice_call at (map (meant space.now cube sets.now) arguments.now)) result }
     ensures maps { AreMapsIn space.now maps.new }
 {
     match arguments {
         [condition, left, right] => {
-            let truth = truth_of(alloc, space, maps, cube, condition)?;
-            let left = value_of(alloc, space, maps, cube, at, left)?;
-            let right = value_of(alloc, space, maps, cube, at, right)?;
+            let truth = truth_of(alloc, space, maps, cube, sets, condition)?;
+            let left = value_of(alloc, space, maps, cube, sets, at, left)?;
+            let right = value_of(alloc, space, maps, cube, sets, at, right)?;
             choice(alloc, truth, left, right)
         }
         _ => Err(BindCause::WrongCount),
@@ -264,17 +274,18 @@ fn one_of(
     space: &Space,
     maps: &mut BoundMaps,
     cube: u32,
+    sets: &[Option<ListOf<u32>>],
     function: Fun,
     arguments: &[Tree],
 ) -> Result<Formula, BindCause>
     requires cube { cube < length space.now.cubes }
     requires maps { AreMapsIn space.now maps.old }
-    ensures answers { Answers (unary_call function (map (meant space.now cube) arguments.now)) result }
+    ensures answers { Answers (unary_call function (map (meant space.now cube sets.now) arguments.now)) result }
     ensures maps { AreMapsIn space.now maps.new }
 {
     match arguments {
         [inner] => {
-            let inner = value_of(alloc, space, maps, cube, Standing::Within, inner)?;
+            let inner = value_of(alloc, space, maps, cube, sets, Standing::Within, inner)?;
             unary(alloc, function, inner)
         }
         _ => Err(BindCause::WrongCount),
@@ -289,18 +300,19 @@ fn two_of(
     space: &Space,
     maps: &mut BoundMaps,
     cube: u32,
+    sets: &[Option<ListOf<u32>>],
     op: Op,
     arguments: &[Tree],
 ) -> Result<Formula, BindCause>
     requires cube { cube < length space.now.cubes }
     requires maps { AreMapsIn space.now maps.old }
-    ensures answers { Answers (binary_call op (map (meant space.now cube) arguments.now)) result }
+    ensures answers { Answers (binary_call op (map (meant space.now cube sets.now) arguments.now)) result }
     ensures maps { AreMapsIn space.now maps.new }
 {
     match arguments {
         [left, right] => {
-            let left = value_of(alloc, space, maps, cube, Standing::Within, left)?;
-            let right = value_of(alloc, space, maps, cube, Standing::Within, right)?;
+            let left = value_of(alloc, space, maps, cube, sets, Standing::Within, left)?;
+            let right = value_of(alloc, space, maps, cube, sets, Standing::Within, right)?;
             binary(alloc, op, left, right)
         }
         _ => Err(BindCause::WrongCount),

@@ -4,7 +4,12 @@
 //! refuses, with the statement or the feeder; [`Standing`], where a formula stands. `specs/Rules.antt` says what
 //! statements and feeders mean, `specs/Formulas.antt` what a formula means, `specs/References.antt` what a `DB` names,
 //! `specs/OwnNumbers.antt` what a number of the cell's own element means, `specs/Texts.antt` what a comparison of its
-//! texts means, and `specs/DimensionSize.antt` what the size of a dimension means.
+//! texts means, `specs/DimensionSize.antt` what the size of a dimension means, and `specs/Sureness.antt` which
+//! comparisons are settled.
+//!
+//! A number of the cell's own element is bound to a table. In a part for leaf cells, a comparison of a table with a
+//! number may be the same for all leaf elements that the statement's area has in the table's dimension: then it is
+//! bound to a comparison of two numbers, so that the zero test knows it.
 #![tactic(auto)]
 
 pub use bind_areas::BindCause;
@@ -13,6 +18,7 @@ pub use binding::bind;
 pub use fault::{BindAt, BindFault};
 pub use rule_model::CubeRules;
 pub use standing::Standing;
+pub use sureness::Test;
 
 mod binding;
 mod dimension_size;
@@ -25,4 +31,5 @@ mod own_numbers;
 mod reference;
 mod standing;
 mod statement;
+mod sureness;
 mod texts;

@@ -8,6 +8,7 @@ use crate::standing::Standing;
 use bind_areas::{BindCause, bind_area};
 use bind_arguments::BoundMaps;
 use cube_space::Space;
+use lists::ListOf;
 use rule_laws::Formula;
 use rule_model::{Form, Statement};
 use rule_tree::{BodyText, StatementText};
@@ -24,41 +25,44 @@ fn form_of(body: &BodyText) -> Form
     }
 }
 
-// The parts of a statement, for leaf cells and for consolidated cells. A formula for both is bound once for each.
+// The parts of a statement, for leaf cells and for consolidated cells. A formula for both is bound once for each: what
+// its area has in each dimension is told of leaf cells alone.
 fn parts_of(
     alloc: Global,
     space: &Space,
     maps: &mut BoundMaps,
     cube: u32,
+    sets: &[Option<ListOf<u32>>],
     body: &BodyText,
 ) -> Result<(Option<Formula>, Option<Formula>), BindCause>
     requires cube { cube < length space.now.cubes }
     requires maps { AreMapsIn space.now maps.old }
-    ensures answers { Answers (parts_of space.now cube body.now) result }
+    ensures answers { Answers (parts_of space.now cube sets.now body.now) result }
     ensures maps { AreMapsIn space.now maps.new }
 {
+    let at = Standing::ConsolidatedPart;
     match body {
         BodyText::Both(tree) => {
-            let leaf = value_of(alloc, space, maps, cube, Standing::Part, tree)?;
-            let cons = value_of(alloc, space, maps, cube, Standing::Part, tree)?;
+            let leaf = value_of(alloc, space, maps, cube, sets, Standing::Part, tree)?;
+            let cons = value_of(alloc, space, maps, cube, &[], Standing::Part, tree)?;
             Ok((Some(leaf), Some(cons)))
         }
         BodyText::Leaf(leaf) => {
-            let leaf = value_of(alloc, space, maps, cube, Standing::Part, leaf)?;
+            let leaf = value_of(alloc, space, maps, cube, sets, Standing::Part, leaf)?;
             Ok((Some(leaf), None))
         }
         BodyText::Cons(cons) => {
-            let cons = value_of(alloc, space, maps, cube, Standing::ConsolidatedPart, cons)?;
+            let cons = value_of(alloc, space, maps, cube, &[], at, cons)?;
             Ok((None, Some(cons)))
         }
         BodyText::LeafCons(leaf, cons) => {
-            let leaf = value_of(alloc, space, maps, cube, Standing::Part, leaf)?;
-            let cons = value_of(alloc, space, maps, cube, Standing::ConsolidatedPart, cons)?;
+            let leaf = value_of(alloc, space, maps, cube, sets, Standing::Part, leaf)?;
+            let cons = value_of(alloc, space, maps, cube, &[], at, cons)?;
             Ok((Some(leaf), Some(cons)))
         }
         BodyText::ConsLeaf(cons, leaf) => {
-            let cons = value_of(alloc, space, maps, cube, Standing::ConsolidatedPart, cons)?;
-            let leaf = value_of(alloc, space, maps, cube, Standing::Part, leaf)?;
+            let cons = value_of(alloc, space, maps, cube, &[], at, cons)?;
+            let leaf = value_of(alloc, space, maps, cube, sets, Standing::Part, leaf)?;
             Ok((Some(leaf), Some(cons)))
         }
     }
@@ -79,7 +83,8 @@ pub fn statement_of(
     ensures maps { AreMapsIn space.now maps.new }
 {
     let area = bind_area(alloc, space, cube, text.area.as_slice())?;
-    let (leaf, cons) = parts_of(alloc, space, maps, cube, &text.body)?;
+    let sets = area.sets.as_slice();
+    let (leaf, cons) = parts_of(alloc, space, maps, cube, sets, &text.body)?;
     let form = form_of(&text.body);
     Ok(Statement {
         area,

@@ -7,6 +7,7 @@ ghost use Rattle.rule_bind.specs.Texts.{kind_side, attribute_side, call_side, na
 ghost use Rattle.rule_bind.specs.Texts.{compared, texts_truth};
 
 use crate::own_numbers::{attribute_at, axis_named, own_place, table_at};
+use crate::sureness::comparison;
 use bind_areas::BindCause;
 use bind_arguments::{BoundMaps, ElementFunction, ElementText};
 use cube_fixed::Money;
@@ -144,6 +145,7 @@ fn compared(
     space: &Space,
     maps: &mut BoundMaps,
     cube: u32,
+    sets: &[Option<ListOf<u32>>],
     rel: Rel,
     place: u32,
     function: ElementFunction,
@@ -152,11 +154,12 @@ fn compared(
     requires place { place < length (axes space.now cube) }
     requires within { is_within_at space.now cube place function }
     requires maps { AreMapsIn space.now maps.old }
-    ensures answers { Answers (Ok (compared space.now cube rel place function)) result }
+    ensures answers { Answers (Ok (compared space.now cube sets.now rel place function)) result }
     ensures maps { AreMapsIn space.now maps.new }
 {
     let table = table_at(alloc, space, maps, cube, place, function)?;
-    Ok(Truth::Compare(rel, table, Formula::Number(Money::of_units(1))))
+    let one = Formula::Number(Money::of_units(1));
+    Ok(comparison(space, cube, sets, rel, table, one))
 }
 
 /// What a comparison of two texts means.
@@ -166,13 +169,14 @@ pub(crate) fn texts_truth(
     space: &Space,
     maps: &mut BoundMaps,
     cube: u32,
+    sets: &[Option<ListOf<u32>>],
     rel: Rel,
     left: &Tree,
     right: &Tree,
 ) -> Result<Truth, BindCause>
     requires cube { cube < length space.now.cubes }
     requires maps { AreMapsIn space.now maps.old }
-    ensures answers { Answers (texts_truth space.now cube rel left.now right.now) result }
+    ensures answers { Answers (texts_truth space.now cube sets.now rel left.now right.now) result }
     ensures maps { AreMapsIn space.now maps.new }
 {
     let (place, text) = side_of(alloc, space, cube, left)?;
@@ -183,6 +187,7 @@ pub(crate) fn texts_truth(
         space,
         maps,
         cube,
+        sets,
         rel,
         place,
         ElementFunction::Same(text, other),

@@ -1,0 +1,216 @@
+ghost use Rattle.std.specs.Prelude.{◌≡◌, ◌<◌, length, find};
+ghost use Rattle.std.specs.List.{list_all, range_with_len};
+ghost use Rattle.rule_bind.specs.Sureness.{is_leaf_of, first_leaf, holds, is_alike, are_alike, number_in, number_at};
+ghost use Rattle.rule_bind.specs.Sureness.{table_side, test_with, side, comparison};
+
+use cube_fixed::{Money, Value};
+use cube_space::{Space, axis, axis_count};
+use dim_core::Dimension;
+use lists::ListOf;
+use rule_laws::{ElementTable, Formula, Rel, Truth};
+
+/// A comparison of the numbers of a table with one number.
+#[derive(Clone, Copy)]
+pub struct Test {
+    pub rel: Rel,
+    pub number: Money,
+    /// Whether the table is the left side.
+    pub is_left: bool,
+}
+
+// Whether an element is a leaf of a dimension.
+fn is_leaf_of(dim: &Dimension, element: u32) -> bool
+    ensures { result ≡ is_leaf_of dim.now element }
+{
+    element < dim.len() && dim.is_leaf(element)
+}
+
+// The first leaf among so many elements of a dimension.
+fn first_leaf_below(dim: &Dimension, count: u32) -> Option<u32>
+    ensures { result ≡ find (is_leaf_of dim.now) (range_with_len 0 count) }
+{
+    (0..count).find(|element| is_leaf_of(dim, *element))
+}
+
+// The first leaf element of a set.
+fn first_leaf(dim: &Dimension, set: &Option<ListOf<u32>>) -> Option<u32>
+    ensures { result ≡ first_leaf dim.now set.now }
+{
+    match set {
+        Some(listed) => listed
+            .as_slice()
+            .iter()
+            .copied()
+            .find(|element| is_leaf_of(dim, *element)),
+        None => first_leaf_below(dim, dim.len()),
+    }
+}
+
+// Whether a comparison holds for a number of the table.
+fn holds(test: Test, number: Money) -> bool
+    ensures { result ≡ holds test number }
+{
+    let number = Value::Num(number);
+    let other = Value::Num(test.number);
+    if test.is_left {
+        test.rel.holds(number, other)
+    } else {
+        test.rel.holds(other, number)
+    }
+}
+
+// Whether a comparison has this truth for an element, if that is a leaf.
+fn is_alike(dim: &Dimension, test: Test, table: &ElementTable, truth: bool, element: u32) -> bool
+    ensures { result ≡ is_alike dim.now test table.now truth element }
+{
+    !is_leaf_of(dim, element) || holds(test, table.get(element as usize)) == truth
+}
+
+// Whether a comparison has this truth for each leaf among so many elements. It ends with the first that is otherwise.
+fn are_alike_below(
+    dim: &Dimension,
+    test: Test,
+    table: &ElementTable,
+    truth: bool,
+    count: u32,
+) -> bool
+    ensures { result ≡ list_all (is_alike dim.now test table.now truth) (range_with_len 0 count) }
+{
+    (0..count).all(|element| is_alike(dim, test, table, truth, element))
+}
+
+// Whether a comparison is the same for all leaf elements of a set as for this number.
+fn are_alike(
+    dim: &Dimension,
+    set: &Option<ListOf<u32>>,
+    test: Test,
+    table: &ElementTable,
+    number: Money,
+) -> bool
+    ensures { result ≡ are_alike dim.now set.now test table.now number }
+{
+    let truth = holds(test, number);
+    match set {
+        Some(listed) => listed
+            .as_slice()
+            .iter()
+            .all(|element| is_alike(dim, test, table, truth, *element)),
+        None => are_alike_below(dim, test, table, truth, dim.len()),
+    }
+}
+
+// The number of the first leaf element of a set, where a comparison is the same for all.
+#[tactic(auto, unfolding(crate::specs::Sureness::number_in))]
+fn number_in(
+    dim: &Dimension,
+    set: &Option<ListOf<u32>>,
+    test: Test,
+    table: &ElementTable,
+) -> Option<Money>
+    ensures { result ≡ number_in dim.now set.now test table.now }
+{
+    let element = first_leaf(dim, set)?;
+    let number = table.get(element as usize);
+    if are_alike(dim, set, test, table, number) {
+        Some(number)
+    } else {
+        None
+    }
+}
+
+// The same by the dimension at a place of a cube.
+#[tactic(auto, unfolding(crate::specs::Sureness::number_at))]
+fn number_at(
+    space: &Space,
+    cube: u32,
+    sets: &[Option<ListOf<u32>>],
+    test: Test,
+    place: u32,
+    table: &ElementTable,
+) -> Option<Money>
+    requires { cube < length space.now.cubes }
+    ensures { result ≡ number_at space.now cube sets.now test place table.now }
+{
+    if axis_count(space, cube) <= place {
+        return None;
+    }
+    let set = sets.get(place as usize)?;
+    number_in(axis(space, cube, place), set, test, table)
+}
+
+// A table, or the number that stands in its place.
+fn table_side(
+    space: &Space,
+    cube: u32,
+    sets: &[Option<ListOf<u32>>],
+    test: Test,
+    place: u32,
+    table: ElementTable,
+) -> Formula
+    requires { cube < length space.now.cubes }
+    ensures { result ≡ table_side space.now cube sets.now test place table }
+{
+    match number_at(space, cube, sets, test, place, &table) {
+        Some(number) => Formula::Number(number),
+        None => Formula::Table(place, table),
+    }
+}
+
+// The comparison of a table with a formula, where that is a number.
+fn test_with(rel: Rel, is_left: bool, formula: &Formula) -> Option<Test>
+    ensures { result ≡ test_with rel is_left formula.now }
+{
+    match formula {
+        Formula::Number(number) => {
+            let number = *number;
+            Some(Test {
+                rel,
+                number,
+                is_left,
+            })
+        }
+        _ => None,
+    }
+}
+
+// A side of a comparison as it is bound.
+#[tactic(auto, unfolding(crate::specs::Sureness::side))]
+fn side(
+    space: &Space,
+    cube: u32,
+    sets: &[Option<ListOf<u32>>],
+    test: Option<Test>,
+    formula: Formula,
+) -> Formula
+    requires { cube < length space.now.cubes }
+    ensures { result ≡ side space.now cube sets.now test formula }
+{
+    let Some(test) = test else {
+        return formula;
+    };
+    match formula {
+        Formula::Table(place, table) => table_side(space, cube, sets, test, place, table),
+        other => other,
+    }
+}
+
+/// A comparison of two formulas. Where one is a table and the other a number, and the comparison is the same for all
+/// leaf elements that these sets of an area have in the table's dimension, the number of the first stands in its place.
+#[tactic(auto, unfolding(crate::specs::Sureness::comparison))]
+pub(crate) fn comparison(
+    space: &Space,
+    cube: u32,
+    sets: &[Option<ListOf<u32>>],
+    rel: Rel,
+    left: Formula,
+    right: Formula,
+) -> Truth
+    requires { cube < length space.now.cubes }
+    ensures { result ≡ comparison space.now cube sets.now rel left right }
+{
+    let left_test = test_with(rel, true, &right);
+    let right_test = test_with(rel, false, &left);
+    let left = side(space, cube, sets, left_test, left);
+    let right = side(space, cube, sets, right_test, right);
+    Truth::Compare(rel, left, right)
+}
