@@ -1,5 +1,7 @@
 ghost use Rattle.std.specs.Prelude.{◌≡◌, length, position, slice_get, bytes_eq, None, IfOk, OnOk};
+ghost use Rattle.std.specs.Coded.{codes};
 ghost use Rattle.script_values.specs.Cells.{refusal, writes_after};
+ghost use Rattle.script_values.specs.contracts.load_reason.LoadReason as load_reason;
 ghost use Rattle.script_cases.specs.Memory as memory;
 
 use crate::elements::{attribute_text, dimension_named, element_named, name_at, place_of};
@@ -22,7 +24,7 @@ pub struct MemoryCells {
     pub stored: u64,
     /// How many writes may be fed.
     pub fed: u64,
-    pub ghost within: { memory.full_with stored fed (length writes.items) ≡ None } by { Prim.hlevel props },
+    pub ghost within: { memory.full_with stored fed (length writes.items) ≡ None } by { Prim.hlevel (codes, load_reason.the_row.coded) },
 }
 
 fn last_value(cell: u64, value: Value, writes: &[(u64, Money)]) -> Value

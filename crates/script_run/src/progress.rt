@@ -148,9 +148,9 @@ impl Run {
         ensures variables { OnOk result (self.new.progress.variables ≡ self.old.held) }
         ensures left { self.new.progress.left ≡ self.old.progress.left }
         ensures last { self.new.progress.last ≡ self.old.progress.last }
-        ensures rejects { let last = self.old.progress.last in
-            let reject = record { row = last.row; statement = last.statement; reason = reason } in
-            OnOk result (self.new.progress.rejects ≡ self.old.progress.rejects ++ reject ∷ []) }
+        ensures rejects { let last = self.old.progress.last in OnOk result (self.new.progress.rejects
+            ≡ self.old.progress.rejects
+            ++ record { row = last.row; statement = last.statement; reason = reason } ∷ []) }
     {
         undo(&mut self.changes, &mut self.is_changed, &mut self.variables);
         self.rejects.push(Reject {
