@@ -9,6 +9,7 @@
 # was written are those that docs/GUIDE.md has. The status is 1 where one is not.
 set -u
 umask 022
+here=$(cd "$(dirname "$0")" && pwd)
 program=$(realpath "${1:?bench/outside.sh PROGRAM}") || exit 2
 room=$(mktemp -d) && trap 'rm -rf "$room"' EXIT
 chmod 755 "$room"
@@ -124,4 +125,11 @@ unwritten "a sample" --sample 1
 timeout 60 "$program" model.txt a.txt >"$room/text" 2>/dev/null <&-
 status=$?
 expect "standard input is closed" 0 "$answer"
+# the stored run of cube_program is that of the example
+top=$(realpath "$here/..")
+if diff -r "$top/examples/profit" "$top/crates/cube_program/data"; then
+  echo "ok: the files of examples/profit are those of cube_program's run"
+else
+  wrong=1
+fi
 exit $wrong
