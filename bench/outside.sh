@@ -128,7 +128,7 @@ expect "standard input is closed" 0 "$answer"
 # the stored run of cube_program is that of the example
 top=$(realpath "$here/..")
 if diff -r "$top/examples/profit" "$top/crates/cube_program/data"; then
-  echo "ok: the files of examples/profit are those of cube_program's run"
+  echo "ok     the files of examples/profit are those of cube_program's run"
 else
   wrong=1
 fi
