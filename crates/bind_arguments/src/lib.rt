@@ -36,4 +36,3 @@ mod own_maps;
 mod parents;
 mod reading;
 mod relative;
-mod same_name;

@@ -9,10 +9,9 @@ use crate::element_function::ElementFunction;
 use crate::element_text::ElementText;
 use crate::marks::{components_of, elements_below};
 use crate::parents::parents_over;
-use crate::same_name::is_same_name;
 use cube_fixed::{Money, read};
 use dim_core::Dimension;
-use dim_name::Name;
+use dim_name::{Name, is_same_name};
 use rule_laws::ElementTable;
 use std::alloc::{AllocError, Global};
 

@@ -2,5 +2,7 @@
 #![tactic(auto)]
 
 mod name;
+mod same_name;
 
 pub use name::{Name, NameFault};
+pub use same_name::is_same_name;

@@ -31,7 +31,7 @@ use Rattle.feed_find.specs.declared.need.TruthNeed.{TruthNeed}
 
 -- the feeder that a reference of a statement of a cube with this area has when it is turned round. One that may name a
 -- consolidated cell which a statement governs has none, since no feeder covers it
-unfoldable pub own_feeder : BoundModel → ℕ → Area → Reference → Option Feeder
+abbrev pub own_feeder : BoundModel → ℕ → Area → Reference → Option Feeder
 own_feeder m cube area r =
     if names_no_governed m cube area r
     then turned_feeder (record { space = m.space; cube = cube; area = area; reference = r }) 0 else None

@@ -22,7 +22,7 @@ pub enum Choice {
 }
 
 /// What can be done about a reference from an area.
-#[tactic(auto, unfolding(crate::specs::Choosing::choice, crate::specs::Choosing::own_feeder, cover_laws::specs::Covered::is_covered))]
+#[tactic(auto, unfolding(crate::specs::Choosing::choice, cover_laws::specs::Covered::is_covered))]
 pub fn choose<'a>(
     alloc: Global,
     asked: Asked<'a>,

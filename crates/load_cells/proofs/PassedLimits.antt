@@ -1,15 +1,13 @@
--- Which limit is passed: none exactly where both are kept.
-use Rattle.std.proofs.Common.{◌≡◌, ◌∙◌, refl, sym, ap, arith, suc, Bool, true, false, if◌then◌else◌, List, length, Some, None}
+-- Which limit is passed: none where both are kept.
+use Rattle.std.proofs.Common.{◌≡◌, ◌∙◌, ap, arith, suc, false, if◌then◌else◌, List, length, Some, None}
 use Rattle.std.specs.Prelude.{nat_lt}
 use Rattle.std.proofs.lemmas.Bool.Decides.{nat_tests}
-use Rattle.lists.proofs.Found.{none_some}
 use Rattle.cell_reader.specs.FedCount.{fed_count}
 use Rattle.cell_reader.specs.Limits.{IsWithinLimits}
 use Rattle.cell_store.specs.StoreLimit.{most_cells}
 use Rattle.cell_store.specs.declared.entry.Entry.{Entry}
 use Rattle.feed_map.specs.FedCells.{most_fed}
 use Rattle.rule_model.specs.BoundModel.{BoundModel}
-use Rattle.script_values.specs.declared.load_reason.LoadReason.{LoadReason}
 use Rattle.script_values.specs.declared.load_reason.LoadReason.TheVariants.{StoreLimit, FedLimit}
 use Rattle.load_cells.specs.Loads.{passed}
 
@@ -21,16 +19,3 @@ none_passed model stored within =
     let fed : nat_lt most_fed (fed_count model stored) ≡ false = grind (arith, nat_tests, few) in
     ap (λ b. if b then Some (StoreLimit (length stored)) else if nat_lt most_fed (fed_count model stored) then Some (FedLimit (suc most_fed)) else None) store
     ∙ ap (λ b. if b then Some (FedLimit (suc most_fed)) else None) fed
-
--- no test passed where none gives a reason
-neither : (a b : Bool) (x y : LoadReason) → (if a then Some x else if b then Some y else None) ≡ None → (a ≡ false) × (b ≡ false)
-neither true b x y is = absurd (none_some (sym is))
-neither false true x y is = absurd (none_some (sym is))
-neither false false x y is = (refl, refl)
-
-pub within-none : (model : BoundModel) (stored : List Entry) → passed model stored ≡ None → IsWithinLimits model stored
-within-none model stored none =
-    let tests = neither (nat_lt most_cells (length stored)) (nat_lt most_fed (fed_count model stored)) (StoreLimit (length stored)) (FedLimit (suc most_fed)) none in
-    let short = tests.0 in
-    let few = tests.1 in
-    record { few_stored = grind (arith, nat_tests, short); few_fed = grind (arith, nat_tests, few) }

@@ -1,7 +1,8 @@
 //! Binding: what the text of a cube's rules means in its model.
 //!
 //! Read in this order: [`bind`], which turns the text into statements and feeders over numbers; [`BindFault`], why it
-//! refuses, with the statement or the feeder; [`Standing`], where a formula stands. `specs/Rules.antt` says what
+//! refuses, with the statement or the feeder; [`Standing`], where a formula stands; [`Test`], a comparison of a table
+//! with a number, which the law of `bind_laws` names. `specs/Rules.antt` says what
 //! statements and feeders mean, `specs/Formulas.antt` what a formula means, `specs/References.antt` what a `DB` names,
 //! `specs/OwnNumbers.antt` what a number of the cell's own element means, `specs/Texts.antt` what a comparison of its
 //! texts means, `specs/DimensionSize.antt` what the size of a dimension means, and `specs/Sureness.antt` which

@@ -1,5 +1,5 @@
 -- Cells that are listed in a case.
-use Rattle.std.specs.Prelude.{ℕ, nat_lt, ◌==◌, List, [], ◌∷◌, ◌++◌, length, position}
+use Rattle.std.specs.Prelude.{◌≡◌, ℕ, nat_lt, ◌==◌, List, [], ◌∷◌, ◌++◌, length, position}
 use Rattle.std.specs.Prelude.{Option, Some, None, Result}
 use Rattle.std.specs.Prelude.{slice_get, bytes_eq, if◌then◌else◌}
 use Rattle.cube_fixed.specs.declared.value.Value.{Value}
@@ -41,6 +41,10 @@ abbrev pub full_with : ℕ → ℕ → ℕ → Option LoadReason
 full_with stored fed count =
     if nat_lt stored count then Some (StoreLimit count)
     else if nat_lt fed count then Some (FedLimit count) else None
+
+-- so many may be stored, and fed
+abbrev pub HasRoom : ℕ → ℕ → List Write → Type 0
+HasRoom stored fed writes = full_with stored fed (length writes) ≡ None
 
 -- No cell of a case has others below it: zeroing out an open cell writes a 0 into it.
 abbrev pub cleared_at : Option LoadReason → ℕ → List ℕ

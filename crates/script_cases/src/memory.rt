@@ -24,7 +24,7 @@ pub struct MemoryCells {
     pub stored: u64,
     /// How many writes may be fed.
     pub fed: u64,
-    pub ghost within: { memory.full_with stored fed (length writes.items) ≡ None } by { Prim.hlevel (codes, load_reason.the_row.coded) },
+    pub ghost within: { memory.HasRoom stored fed writes.items } by { Prim.hlevel (codes, load_reason.the_row.coded) },
 }
 
 fn last_value(cell: u64, value: Value, writes: &[(u64, Money)]) -> Value

@@ -12,7 +12,6 @@ mod kept;
 mod load_reason;
 mod operands;
 mod padding;
-mod same_name;
 mod sight;
 mod text;
 mod text_functions;

@@ -7,10 +7,10 @@ ghost use Rattle.script_values.specs.Values as values;
 
 use crate::datum::Datum;
 use crate::load_reason::LoadReason;
-use crate::same_name::is_same_name;
 use crate::text::Text;
 use crate::wanted::{as_said, as_text, as_truth};
 use cube_fixed::{Value, print};
+use dim_name::is_same_name;
 use rule_laws::{Fun, Op, Rel};
 use std::alloc::{AllocError, Global};
 

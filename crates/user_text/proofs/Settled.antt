@@ -5,7 +5,7 @@ use Rattle.grammar.proofs.Lists.{listed_settles, names_settle, minus_settles}
 use Rattle.grammar.proofs.Settles.{Settles, settles_one, settles_gives, settles_both, settles_choose, settles_all, settles_all_after}
 use Rattle.user_text.specs.Counting.{count}
 use Rattle.cube_fixed.specs.Text.{decimal_point}
-use Rattle.user_text.specs.Readers.Reading.{is_command_word, read_cell, read_amount, read_put, read_get, read_skip, read_given_separator, read_separator, read_given_decimal, read_decimal_by, read_decimal, read_rejects, read_given_source, read_source, read_value, read_param, read_next_param, read_further_params, read_params, read_load, read_elements, read_set, read_next_set, read_axis, read_point, read_points, read_nozeros, read_view, read_spread_word, read_spread, read_trace, read_alone, read_of_sandboxes, read_command, read_user}
+use Rattle.user_text.specs.Readers.Reading.{is_command_word, read_cell, read_amount, read_put, read_get, read_skip, read_given_separator, read_separator, read_given_decimal, read_sign_by, read_decimal, read_rejects, read_given_source, read_source, read_value, read_param, read_next_param, read_further_params, read_params, read_load, read_elements, read_set, read_next_set, read_axis, read_point, read_points, read_nozeros, read_view, read_spread_word, read_spread, read_trace, read_alone, read_of_sandboxes, read_command, read_user}
 use Rattle.user_text.specs.declared.command.ParamText.{ParamText}
 use Rattle.user_text.specs.declared.command.UserBody.{UserBody}
 
@@ -41,8 +41,8 @@ given_decimal_settles : (byte : ℕ) → Settles (read_given_decimal byte)
 unfolding read_given_decimal
 given_decimal_settles byte = settles_both (settles_one _ _) (λ _. settles_one _ _)
 
-decimal_by_settles : (needed : Bool) (byte : ℕ) → Settles (read_decimal_by needed byte)
-unfolding read_decimal_by
+decimal_by_settles : (needed : Bool) (byte : ℕ) → Settles (read_sign_by needed byte)
+unfolding read_sign_by
 decimal_by_settles true byte = given_decimal_settles byte
 decimal_by_settles false byte = settles_choose _ (given_decimal_settles byte) (settles_gives _)
 

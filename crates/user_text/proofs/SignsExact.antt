@@ -15,7 +15,7 @@ use Rattle.std.proofs.lemmas.Bool.{eqb-true}
 use Rattle.user_text.specs.Counting.{count, counting}
 use Rattle.cube_fixed.specs.Text.{decimal_point}
 use Rattle.user_text.specs.FileSigns.{comma, tab, sign_in, sign_text, sign_but, given_separator, separator, given_decimal, decimal_by, decimal}
-use Rattle.user_text.specs.Readers.Reading.{read_given_separator, read_separator, read_given_decimal, read_decimal_by, read_decimal}
+use Rattle.user_text.specs.Readers.Reading.{read_given_separator, read_separator, read_given_decimal, read_sign_by, read_decimal}
 
 -- ---- columns
 
@@ -82,8 +82,8 @@ given_decimal_exact byte = exact_then (exact_word count (codes "DECIMAL")) (λ _
 pub decimal_begins : (byte : ℕ) (other : List ℕ) → Begins (given_decimal byte) (is_word other) (str_eq_ignore_ascii_case (codes "DECIMAL") other)
 decimal_begins byte other = begins_both (word_begins (codes "DECIMAL") other)
 
-decimal_by_exact : (needed : Bool) (byte : ℕ) → Exact counting (decimal_by needed byte) (decimal_by needed byte) (read_decimal_by needed byte) (Not (is_word (codes "DECIMAL")))
-unfolding read_decimal_by
+decimal_by_exact : (needed : Bool) (byte : ℕ) → Exact counting (decimal_by needed byte) (decimal_by needed byte) (read_sign_by needed byte) (Not (is_word (codes "DECIMAL")))
+unfolding read_sign_by
 decimal_by_exact true byte = exact_before (λ rest stops. tt) (given_decimal_exact byte)
 decimal_by_exact false byte = exact_option (is_word (codes "DECIMAL")) decimal_point (decimal_begins byte (codes "DECIMAL")) (given_decimal_exact byte)
 

@@ -122,7 +122,7 @@ fn given_decimal(
 
 /// Reads what stands between units and decimals. Where nothing is said it is a point, and so something has to be said
 /// where a point stands between columns.
-#[tactic(auto, unfolding(crate::specs::Readers::Reading::read_decimal, crate::specs::Readers::Reading::read_decimal_by))]
+#[tactic(auto, unfolding(crate::specs::Readers::Reading::read_decimal, crate::specs::Readers::Reading::read_sign_by))]
 pub fn decimal_at(
     alloc: Global,
     cursor: &mut Cursor<'_, Counted>,

@@ -78,15 +78,16 @@ read_separator =
 unfoldable pub read_given_decimal : ℕ → Plan ℕ
 read_given_decimal byte = do take_word (codes "DECIMAL"); take_one count (sign_but byte)
 
-unfoldable pub read_decimal_by : Bool → ℕ → Plan ℕ
-read_decimal_by true byte = read_given_decimal byte
-read_decimal_by false byte = choose (is_word (codes "DECIMAL")) (read_given_decimal byte) (gives decimal_point)
+unfoldable pub read_sign_by : Bool → ℕ → Plan ℕ
+read_sign_by true byte = read_given_decimal byte
+read_sign_by false byte = choose (is_word (codes "DECIMAL")) (read_given_decimal byte) (gives decimal_point)
 
 unfoldable pub read_decimal : ℕ → Plan ℕ
-read_decimal byte = read_decimal_by (byte == decimal_point) byte
+read_decimal byte = read_sign_by (byte == decimal_point) byte
 
 unfoldable pub read_rejects : Plan (Option ℕ)
-read_rejects = choose (is_word (codes "REJECTS")) (do take_word (codes "REJECTS"); most ← take_one count whole; gives (Some most))
+read_rejects = choose (is_word (codes "REJECTS"))
+    (do take_word (codes "REJECTS"); most ← take_one count whole; gives (Some most))
     (gives None)
 
 unfoldable pub read_given_source : Plan Source

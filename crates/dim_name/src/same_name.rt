@@ -17,7 +17,7 @@ fn next_letter(text: &[u8]) -> Option<(u8, &[u8])>
 }
 
 /// Whether two texts are the same as names are: without spaces, and with `A` to `Z` lowered.
-pub(crate) fn is_same_name(one: &[u8], other: &[u8]) -> bool
+pub fn is_same_name(one: &[u8], other: &[u8]) -> bool
     ensures { result ≡ is_same_name one.now other.now }
 {
     let mut left = one;

@@ -1,9 +1,0 @@
-use Rattle.std.proofs.Common.{◌≡◌, ◌≤◌, length}
-use Rattle.dim_name.specs.Name.{key_of}
-use Rattle.bind_arguments.proofs.same_name.next_letter.Given as goal
-
-abbrev pub invariant-byte : goal.invariant-byte
-invariant-byte l = (key_of l.rest ≡ key_of l.text) × (length l.rest ≤ length l.text)
-
-abbrev pub decreases-byte : goal.decreases-byte
-decreases-byte l = length l.rest
