@@ -44,7 +44,7 @@ none_read words o (reading ∷ older) misfit course = absurd (no_course words ol
 
 -- the answer to a run that went no further is allowed
 pub Allows-halted : (words : List (List ℕ)) (o : Outside) (readings : Readings) (halt : Halt) (status : Status) (written : List ℕ)
-    → Comes (run_of words) o [] readings (Err halt) → Answers halt o.missed status written → Allows words o status written
+    → Comes (run_of words) o [] readings (Err halt) → Answers words readings halt o.missed status written → Allows words o status written
 Allows-halted words o readings halts.NotWords status written came answer =
     let misfit = misfit_words words readings came.1.0 in
     let none = none_read words o readings misfit (course-of (run_of words) o.known readings came.0) in
@@ -73,12 +73,12 @@ Allows-halted words o readings halts.Memory status written came answer = absurd 
 
 pub Allows-result : {E : Type 0} (result : Result Answer E) (words : List (List ℕ)) (o : Outside) (first readings : Readings) (halt : Halt) (missed : List ℕ)
     → first ≡ [] → Comes (run_of words) o first readings (Err halt) → missed ≡ o.missed
-    → IfOk result (λ answer. Answers halt missed answer.status (joined answer.pieces.items))
+    → IfOk result (λ answer. Answers words readings halt missed answer.status (joined answer.pieces.items))
     → IfOk result (λ answer. Allows words o answer.status (joined answer.pieces.items))
 Allows-result (Ok answer) words o first readings halt missed none came same is =
     Allows-halted words o readings halt answer.status (joined answer.pieces.items)
     (subst (λ l. Comes (run_of words) o l readings (Err halt)) none came)
-    (subst (λ name. Answers halt name answer.status (joined answer.pieces.items)) same is)
+    (subst (λ name. Answers words readings halt name answer.status (joined answer.pieces.items)) same is)
 Allows-result (Err e) words o first readings halt missed none came same is = tt
 
 -- a run that was served ends as it is to

@@ -2,4 +2,5 @@ mod Crosses
 mod Converses
 mod Pieces
 mod EndFacts
+mod Explained
 mod SampleRuns

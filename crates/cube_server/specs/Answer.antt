@@ -13,7 +13,7 @@ use Rattle.sandbox.specs.declared.act.Act.{Act}
 use Rattle.user_session.specs.Content.{opening, after}
 use Rattle.user_session.specs.Layers.{answer}
 use Rattle.run_passes.specs.declared.run_job.RunJob.{RunJob}
-use Rattle.run_passes.specs.declared.run_job.RunJob.TheVariants.{Serve, Check, Feeders, Sample}
+use Rattle.run_passes.specs.declared.run_job.RunJob.TheVariants.{Serve, Check, Explain, Feeders, Sample}
 use Rattle.file_passes.specs.declared.refusal.Refusal.{Refusal}
 use Rattle.cube_server.specs.declared.status.Status.{Status}
 use Rattle.cube_server.specs.declared.status.Status.TheVariants.{Done, Usage, Refused, ReadFault, WriteFault, NoMemory}
@@ -27,7 +27,8 @@ use Rattle.model_counts.specs.Counts.{accepted_text}
 use Rattle.rule_model.specs.BoundModel.{BoundModel}
 use Rattle.user_session.specs.declared.command.PlanCommand.{PlanCommand}
 use Rattle.cube_server.specs.Sample.{IsSummary}
-use Rattle.cube_words.specs.Words.{Plan, IsPlan, texts_of}
+use Rattle.cube_words.specs.Words.{Plan, IsPlan, IsExplain, texts_of}
+use Rattle.explanation.specs.Explanation.{IsExplanation}
 
 -- The model is an accepted one, and the text is what the users were told, and the one history. Each user begins without
 -- a sandbox. Each reply is that of the user's act on the version at its place, with what the user's own sandbox keeps
@@ -43,6 +44,7 @@ pub record IsServed (model : BoundModel) (users : List (List (Act PlanCommand)))
 abbrev pub IsOutput : RunJob → List ℕ → Type 0
 IsOutput (Serve model users) text = IsServed model users text
 IsOutput (Check model) text = IsAccepted model × (text ≡ accepted_text model)
+IsOutput (Explain model) text = IsAccepted model × (text ≡ accepted_text model)
 IsOutput (Feeders bound) text = IsFoundText bound.model bound.asking text
 IsOutput (Sample size) text = IsSummary size text
 
@@ -78,6 +80,17 @@ pub record IsUsage (words : List (List ℕ)) (o : Outside) (text : List ℕ) : T
   pub asked : AsksJust o [] []
   pub is_text : text ≡ usage_text
 
+-- the words ask to explain a refusal
+abbrev pub AskToExplain : List (List ℕ) → Type 0
+AskToExplain words = (model : List ℕ) × (users : List (List ℕ)) × IsExplain words model users
+
+-- a line says what is refused; lines that explain it follow exactly where the words ask for them
+abbrev pub IsRefusalText : List (List ℕ) → Readings → Refusal → List ℕ → Type 0
+IsRefusalText words readings refusal text =
+    ((¬ AskToExplain words) × (text ≡ refused_text refusal))
+    ⊎ (AskToExplain words
+        × ((lines : List ℕ) × IsExplanation readings refusal lines × (text ≡ refused_text refusal ++ lines)))
+
 -- after the files that were read the run refuses one of them
 pub record IsRefused (words : List (List ℕ)) (o : Outside) (text : List ℕ) : Type 0 where
   pub readings : Readings
@@ -86,7 +99,7 @@ pub record IsRefused (words : List (List ℕ)) (o : Outside) (text : List ℕ) :
   pub refused : (run_of words).stops readings (Refuses refusal)
   pub no_read_failed : o.after ≡ o.before
   pub asked : AsksJust o readings []
-  pub is_text : text ≡ refused_text refusal
+  pub is_text : IsRefusalText words readings refusal text
 
 -- after the files that were read it was the turn of the one that couldn't be
 pub record IsReadFault (words : List (List ℕ)) (o : Outside) (text : List ℕ) : Type 0 where

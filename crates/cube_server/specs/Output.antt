@@ -114,4 +114,5 @@ usage_text =
     codes "usage: cube_program MODEL USER..." ++ line_end ++
     codes "       cube_program --check MODEL" ++ line_end ++
     codes "       cube_program --sample N" ++ line_end ++
-    codes "       cube_program --feeders MODEL" ++ line_end
+    codes "       cube_program --feeders MODEL" ++ line_end ++
+    codes "       cube_program --explain MODEL USER..." ++ line_end

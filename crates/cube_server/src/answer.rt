@@ -1,11 +1,14 @@
 ghost use Rattle.std.specs.Prelude.{◌≡◌, IfOk, OnErr};
+ghost use Rattle.accepted.specs.Checks.{IsAccepted};
 ghost use Rattle.cube_server.specs.Answer.{IsOutput, IsServed, Allows, AsksInTurn};
 ghost use Rattle.cube_server.specs.Inside.Ending.{Answers, joined};
 ghost use Rattle.file_passes.specs.Outside.{outside};
+ghost use Rattle.model_counts.specs.Counts.{accepted_text};
 ghost use Rattle.cube_server.specs.Output.{users_text};
 ghost use Rattle.cube_words.specs.Words.{texts_of};
 
-use crate::print::{print_history, print_refusal, print_unread, print_usage, print_user};
+use crate::print::{print_history, print_unread, print_usage, print_user};
+use crate::refusal_text::refusal_text;
 use crate::sample::sample;
 use crate::status::Status;
 use crate::users::serve_users;
@@ -49,7 +52,7 @@ pub(crate) fn answer_of<R: Threads + Wait + Sync, F: Files, G: Gate + Sync>(
             drop(readings);
             done(rt, alloc, gate, job)
         }
-        Err(halt) => halted(alloc, files.missed(), halt),
+        Err(halt) => halted(alloc, words, &readings, files.missed(), halt),
     }
 }
 
@@ -65,11 +68,8 @@ fn done<R: Threads + Wait + Sync, G: Gate + Sync>(
 {
     match job {
         RunJob::Serve(model, users) => served(rt, alloc, gate, model, users),
-        RunJob::Check(model) => one_piece(
-            alloc,
-            Status::Done,
-            accepted_text(alloc, model.model())?,
-        ),
+        RunJob::Check(model) => accepted(alloc, &model),
+        RunJob::Explain(model) => accepted(alloc, &model),
         RunJob::Feeders(bound) => one_piece(
             alloc,
             Status::Done,
@@ -77,6 +77,19 @@ fn done<R: Threads + Wait + Sync, G: Gate + Sync>(
         ),
         RunJob::Sample(size) => one_piece(alloc, Status::Done, sample(rt, alloc, gate, size)?),
     }
+}
+
+// Says that the model is accepted.
+fn accepted(alloc: Global, model: &Accepted) -> Result<Answer, AllocError>
+    ensures status { IfOk result (λ answer. answer.status ≡ Status.Done) }
+    ensures text { IfOk result (λ answer. IsAccepted model.now
+        × (joined answer.pieces.items ≡ accepted_text model.now)) }
+{
+    one_piece(
+        alloc,
+        Status::Done,
+        accepted_text(alloc, model.model())?,
+    )
 }
 
 // Runs the users.
@@ -119,16 +132,25 @@ fn print_users(
     Ok(pieces)
 }
 
-// Says why the run went no further.
-fn halted(alloc: Global, missed: &[u8], halt: Halt) -> Result<Answer, AllocError>
-    ensures { IfOk result (λ answer. Answers halt missed.now answer.status (joined answer.pieces.items)) }
+// Says why the run of these words went no further.
+fn halted(
+    alloc: Global,
+    words: &[String],
+    readings: &Readings,
+    missed: &[u8],
+    halt: Halt,
+) -> Result<Answer, AllocError>
+    ensures { IfOk result (λ answer. Answers (texts_of words.now) readings.now halt missed.now answer.status
+        (joined answer.pieces.items)) }
 {
     match halt {
         Halt::NotWords => one_piece(alloc, Status::Usage, print_usage(alloc)?),
         Halt::Unread => one_piece(alloc, Status::ReadFault, print_unread(alloc, missed)?),
-        Halt::Refused(refusal) => {
-            one_piece(alloc, Status::Refused, print_refusal(alloc, &refusal)?)
-        }
+        Halt::Refused(refusal) => one_piece(
+            alloc,
+            Status::Refused,
+            refusal_text(alloc, words, readings, &refusal)?,
+        ),
         Halt::Memory => Err(AllocError),
     }
 }

@@ -209,5 +209,6 @@ pub(crate) fn print_usage(alloc: Global) -> Result<Vec<u8>, AllocError>
     text.extend_from_slice(b"       cube_program --check MODEL\n")?;
     text.extend_from_slice(b"       cube_program --sample N\n")?;
     text.extend_from_slice(b"       cube_program --feeders MODEL\n")?;
+    text.extend_from_slice(b"       cube_program --explain MODEL USER...\n")?;
     Ok(text)
 }

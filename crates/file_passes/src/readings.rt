@@ -90,6 +90,17 @@ impl Readings {
         }
     }
 
+    /// The bytes that were read under this name, or None where none was. A name that is no UTF-8 has none, but the
+    /// answer is then out of memory.
+    pub fn bytes_of(&self, name: &[u8]) -> Result<Option<&[u8]>, AllocError>
+        ensures { IfOk result (λ found. option_copied found ≡ bytes_of self.now name.now) }
+    {
+        match str::from_utf8(name) {
+            Ok(name) => Ok(self.bytes(name)),
+            Err(_) => Err(AllocError),
+        }
+    }
+
     /// The file of this name, which was read.
     pub fn source<'a>(&'a self, name: &'a str) -> Source<'a>
         requires { IsSome (bytes_of self.now name.now) }

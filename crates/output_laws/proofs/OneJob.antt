@@ -1,9 +1,9 @@
 -- The passes of a run find one job.
-use Rattle.std.proofs.Common.{◌≡◌, ℕ, List, refl, sym, ◌∙◌, subst}
+use Rattle.std.proofs.Common.{◌≡◌, ℕ, List, refl, sym, ◌∙◌, subst, ap}
 use Rattle.std.specs.List.{AllZip}
 use Rattle.cube_outside.specs.declared.files.Extent.TheVariants.{Whole}
-use Rattle.cube_words.specs.Words.{Plan, Run, Check, Feeders, Sample, IsPlan}
-use Rattle.file_passes.specs.Pass.{Readings, NotWords, Pass, the, files, judged, ◌>>=◌}
+use Rattle.cube_words.specs.Words.{Plan, Run, Check, Explain, Feeders, Sample, IsPlan}
+use Rattle.file_passes.specs.Pass.{Readings, NotWords, Pass, found, the, files, judged, ◌>>=◌}
 use Rattle.file_passes.proofs.PassFacts.{one-files}
 use Rattle.judged_files.specs.Loads.{record_files, commands_judgement}
 use Rattle.judged_files.specs.ModelFiles.{ModelFiles, Checked}
@@ -14,7 +14,8 @@ use Rattle.model_bind.specs.declared.bound.Bound.{Bound}
 use Rattle.rule_model.specs.BoundModel.{BoundModel}
 use Rattle.run_passes.specs.Inside.Plans.{behind_scripts, behind_rules, behind_text, behind_users, behind_model, asked_feeders, behind_feeders_text}
 use Rattle.run_passes.specs.RefusalOrder.{as_text, text_pass, deploy_pass, bind_pass, scripts_pass, model_pass}
-use Rattle.run_passes.specs.RefusalOrder.{users_pass, records_pass, plan_pass, run_of}
+use Rattle.run_passes.specs.RefusalOrder.{users_pass, records_pass, ready_pass, plan_pass, run_of}
+use Rattle.run_passes.specs.declared.ready.Ready.{Ready}
 use Rattle.run_passes.specs.declared.run_job.RunJob.{RunJob}
 use Rattle.run_passes.specs.declared.run_job.RunJob.TheVariants as jobs
 use Rattle.run_passes.proofs.PlanFacts.{steady-text, steady-deploy, steady-bind-pass, steady-users, accept}
@@ -41,6 +42,11 @@ same-behind : {A B : Type 0} (Same : B → B → Type 0) (P : Pass A) (K : A →
 same-behind Same P K one next readings b c (x, is, p) (y, too, q) =
     next x readings b c p (subst (λ a. (K a).finds readings c) (sym (one readings x y is too)) q)
 
+same-mapped : {A B : Type 0} (Same : A → A → Type 0) (Alike : B → B → Type 0) (P : Pass A) (f : A → B)
+    → FindsSame Same P → ((x y : A) → Same x y → Alike (f x) (f y)) → FindsSame Alike (P >>= λ x. found (f x))
+same-mapped Same Alike P f same fits readings a b (x, is, p) (y, too, q) =
+    rw (p, q) (fits x y (same readings x y is too))
+
 one-behind : {A B : Type 0} (P : Pass A) (K : A → Pass B)
     → FindsOne P → ((a : A) → FindsOne (K a)) → FindsOne (P >>= K)
 one-behind P K one next = same-behind (λ a b. a ≡ b) P K one next
@@ -54,18 +60,18 @@ same-records model_files texts =
     (λ sources. judged (commands_judgement model_files sources texts)) (one-files Whole (record_files texts)).one_found
     (λ sources readings a b. same_users model_files sources texts a b)
 
-same-served : (model : BoundModel) (xs ys : List (List (Act PlanCommand))) (a b : RunJob)
-    → AllZip (AllZip IsSameAct) xs ys → a ≡ jobs.Serve model xs → b ≡ jobs.Serve model ys → IsSameJob a b
-same-served model xs ys a b same p q = rw (p, q) (refl, same)
+-- one model, and the same commands of its users
+abbrev IsSameReady : Ready → Ready → Type 0
+IsSameReady a b = (a.model ≡ b.model) × AllZip (AllZip IsSameAct) a.commands b.commands
 
 same-behind_users : (checked : Checked) (texts : List (List UserCommand))
-    → FindsSame IsSameJob (behind_users checked texts)
+    → FindsSame IsSameReady (behind_users checked texts)
 same-behind_users checked texts readings a b (xs, is, p) (ys, too, q) =
-    same-served checked.model xs ys a b (same-records checked.files texts readings xs ys is too) p q
+    rw (p, q) (refl, same-records checked.files texts readings xs ys is too)
 
-same-behind_model : (users : List (List ℕ)) (checked : Checked) → FindsSame IsSameJob (behind_model users checked)
+same-behind_model : (users : List (List ℕ)) (checked : Checked) → FindsSame IsSameReady (behind_model users checked)
 same-behind_model users checked =
-    same-behind IsSameJob (users_pass checked.files.script_names users) (behind_users checked)
+    same-behind IsSameReady (users_pass checked.files.script_names users) (behind_users checked)
     (steady-users checked.files.script_names users).one.one_found (same-behind_users checked)
 
 -- ---- of each plan
@@ -107,12 +113,20 @@ module _ (answers : (bytes : List ℕ) → OneScriptAnswer bytes) where
 
   -- ---- of a run
 
+  same-ready : (model : List ℕ) (users : List (List ℕ)) → FindsSame IsSameReady (ready_pass model users)
+  same-ready model users =
+      same-behind IsSameReady (model_pass model) (behind_model users) (one-model model) (same-behind_model users)
+
   same-plan : (plan : Plan) → FindsSame IsSameJob (plan_pass plan)
   same-plan (Run model users) =
-      same-behind IsSameJob (model_pass model) (behind_model users) (one-model model) (same-behind_model users)
+      same-mapped IsSameReady IsSameJob (ready_pass model users) (λ ready. jobs.Serve ready.model ready.commands)
+      (same-ready model users) (λ x y same. same)
   same-plan (Check model) =
       same-behind IsSameJob (model_pass model) accept (one-model model)
       (λ checked readings a b. same-accepted checked.model a b)
+  same-plan (Explain model users) =
+      same-mapped IsSameReady IsSameJob (ready_pass model users) (λ ready. jobs.Explain ready.model)
+      (same-ready model users) (λ x y same. ap jobs.Explain (sym same.0))
   same-plan (Feeders model) =
       same-behind IsSameJob (text_pass model) (behind_feeders_text model) (steady-text model).one.one_found
       (λ contents. same-behind IsSameJob (bind_pass model contents) asked_feeders (steady-bind-pass model contents).one.one_found

@@ -12,6 +12,7 @@ use Rattle.judged_files.specs.Users.{AreUserTexts}
 use Rattle.run_passes.proofs.PlanFacts.{found_ends, one_run}
 use Rattle.run_passes.proofs.PlanWords.{one_plan}
 use Rattle.run_passes.specs.RefusalOrder.{as_text, plan_pass, run_of}
+use Rattle.run_passes.specs.declared.ready.Ready.{Ready}
 use Rattle.run_passes.specs.declared.run_job.RunJob.{RunJob}
 use Rattle.user_text.specs.declared.command.UserCommand.{UserCommand}
 use Rattle.output_laws.specs.SameJob.{IsSameJob}
@@ -34,13 +35,14 @@ texts_long before (source ∷ more) (commands ∷ rest) are = ap suc (texts_long
 
 plan_serves_one : (model user : List ℕ) (readings : Readings) (job : RunJob)
     → (plan_pass (Run model (user ∷ []))).finds readings job → ServesOneUser job
-plan_serves_one model user readings job it =
+plan_serves_one model user readings job (ready, it, is) =
     let texts = it.2 in
     let commands = texts.2 in
     let sources = texts.1 in
     let long = zip_long (AreCommands it.0.files commands.1.0) texts.0 commands.0 commands.1.2 in
-    subst ServesOneUser (sym commands.2)
-    (sym long ∙ texts_long 0 sources.0 texts.0 sources.2.texts ∙ files_long as_text (user ∷ []) readings sources.0 sources.1)
+    let same = ap (λ (r : Ready). length r.commands) commands.2 in
+    subst ServesOneUser (sym is)
+    (same ∙ sym long ∙ texts_long 0 sources.0 texts.0 sources.2.texts ∙ files_long as_text (user ∷ []) readings sources.0 sources.1)
 
 run_serves_one : (words : List (List ℕ)) (model user : List ℕ) (readings : Readings) (job : RunJob)
     → IsPlan words (Run model (user ∷ [])) → (run_of words).finds readings job → ServesOneUser job

@@ -6,7 +6,7 @@ use Rattle.cube_server.specs.Answer.{IsServed}
 use Rattle.cube_server.specs.Laws.{OneUserHasOneOutput}
 use Rattle.load_cells.specs.Loads.{store_of}
 use Rattle.rule_model.specs.BoundModel.{BoundModel}
-use Rattle.run_passes.specs.declared.run_job.RunJob.TheVariants.{Serve, Check, Feeders, Sample}
+use Rattle.run_passes.specs.declared.run_job.RunJob.TheVariants.{Serve, Check, Explain, Feeders, Sample}
 use Rattle.sandbox.specs.Sandboxes.{where_fit}
 use Rattle.sandbox.specs.declared.act.Act.{Act}
 use Rattle.sandbox.specs.declared.act.Act.TheVariants.{Open, Publish, Discard, Do}
@@ -84,9 +84,11 @@ served_alike model users others text same served = record {
 
 pub same_text : OneUserHasOneOutput → SameJobsPrintTheSame
 same_text one (Check model) b text other few same p q = absurd few
+same_text one (Explain model) b text other few same p q = absurd few
 same_text one (Feeders bound) b text other few same p q = absurd few
 same_text one (Sample size) b text other few same p q = absurd few
 same_text one (Serve model users) (Check again) text other few same p q = absurd same
+same_text one (Serve model users) (Explain again) text other few same p q = absurd same
 same_text one (Serve model users) (Feeders bound) text other few same p q = absurd same
 same_text one (Serve model users) (Sample size) text other few same p q = absurd same
 same_text one (Serve model []) (Serve again more) text other few same p q = absurd (omega (arith, few))

@@ -11,6 +11,7 @@ use Rattle.run_passes.specs.declared.run_job.RunJob.TheVariants as jobs
 abbrev pub ServesOneUser : RunJob → Type 0
 ServesOneUser (jobs.Serve model users) = length users ≡ 1
 ServesOneUser (jobs.Check model) = ⊥
+ServesOneUser (jobs.Explain model) = ⊥
 ServesOneUser (jobs.Feeders bound) = ⊥
 ServesOneUser (jobs.Sample size) = ⊥
 

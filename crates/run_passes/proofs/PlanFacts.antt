@@ -2,7 +2,7 @@
 use Rattle.std.proofs.Common.{◌≡◌, ℕ, List, Result, refl, sym, ◌∙◌, ap, subst}
 use Rattle.cube_outside.specs.Seen.{Seen}
 use Rattle.cube_outside.specs.declared.files.Extent.TheVariants.{Whole}
-use Rattle.cube_words.specs.Words.{Plan, Run, Check, Feeders, Sample, IsPlan}
+use Rattle.cube_words.specs.Words.{Plan, Run, Check, Explain, Feeders, Sample, IsPlan}
 use Rattle.file_passes.specs.Halting.{Comes}
 use Rattle.file_passes.specs.Outside.{Outside, outside}
 use Rattle.file_passes.specs.Pass.{Readings, NotWords, Reads, IsTurnOf, Pass, found, the, file, files, judged, ◌>>=◌}
@@ -24,8 +24,8 @@ use Rattle.rule_model.specs.BoundModel.{BoundModel}
 use Rattle.user_text.specs.declared.command.UserCommand.{UserCommand}
 use Rattle.run_passes.specs.declared.run_job.RunJob.{RunJob}
 use Rattle.run_passes.specs.declared.run_job.RunJob.TheVariants as jobs
-use Rattle.run_passes.specs.RefusalOrder.{as_text, text_pass, deploy_pass, bind_pass, scripts_pass, model_pass, users_pass, records_pass, plan_pass, run_of}
-use Rattle.run_passes.specs.Inside.Plans.{checked_of, behind_scripts, behind_rules, behind_text, served, behind_users, behind_model, asked_feeders, behind_feeders_text}
+use Rattle.run_passes.specs.RefusalOrder.{as_text, text_pass, deploy_pass, bind_pass, scripts_pass, model_pass, users_pass, records_pass, ready_pass, plan_pass, run_of}
+use Rattle.run_passes.specs.Inside.Plans.{checked_of, behind_scripts, behind_rules, behind_text, ready_of, behind_records, behind_users, behind_model, served, explained, asked_feeders, behind_feeders_text}
 use Rattle.run_passes.proofs.PlanWords.{one_plan}
 
 -- ---- of a model
@@ -124,9 +124,9 @@ worded-records model_files texts =
 
 alike-behind_users : (a b : Checked) (texts : List (List UserCommand)) → AreAlike (behind_users a texts) (behind_users b texts)
 alike-behind_users a b texts =
-    alike-bind (records_pass a.files texts) (records_pass b.files texts) (served a) (served b)
+    alike-bind (records_pass a.files texts) (records_pass b.files texts) (behind_records a) (behind_records b)
     (alike-records a.files b.files texts) (alike-records b.files a.files texts)
-    (λ readings x y p q. alike-found (jobs.Serve a.model x) (jobs.Serve b.model y))
+    (λ readings x y p q. alike-found (ready_of a.model x) (ready_of b.model y))
 
 alike-behind_model : (users : List (List ℕ)) (a b : Checked) → a.files.script_names ≡ b.files.script_names → AreAlike (behind_model users a) (behind_model users b)
 alike-behind_model users a b same =
@@ -136,7 +136,16 @@ alike-behind_model users a b same =
 worded-behind_model : (users : List (List ℕ)) (checked : Checked) (readings : Readings) → (behind_model users checked).stops readings NotWords → ⊥
 worded-behind_model users checked =
     worded-behind (users_pass checked.files.script_names users) (behind_users checked) (steady-users checked.files.script_names users).worded
-    (λ texts. worded-behind (records_pass checked.files texts) (served checked) (worded-records checked.files texts) (λ commands readings stops. stops))
+    (λ texts. worded-behind (records_pass checked.files texts) (behind_records checked) (worded-records checked.files texts) (λ commands readings stops. stops))
+
+settled-ready : (model : List ℕ) (users : List (List ℕ)) → IsSettled (ready_pass model users)
+settled-ready model users =
+    let settled = settled-model model in
+    record {
+      alike = alike-bind (model_pass model) (model_pass model) (behind_model users) (behind_model users) settled.alike settled.alike
+          (λ readings a b p q. alike-behind_model users a b (same-names model readings a b p q));
+      worded = worded-behind (model_pass model) (behind_model users) settled.worded (worded-behind_model users);
+    }
 
 -- ---- of feeders
 
@@ -155,11 +164,18 @@ accept checked = found (jobs.Check checked.model)
 
 pub settled-plan : (plan : Plan) → IsSettled (plan_pass plan)
 settled-plan (Run model users) =
-    let settled = settled-model model in
+    let settled = settled-ready model users in
     record {
-      alike = alike-bind (model_pass model) (model_pass model) (behind_model users) (behind_model users) settled.alike settled.alike
-          (λ readings a b p q. alike-behind_model users a b (same-names model readings a b p q));
-      worded = worded-behind (model_pass model) (behind_model users) settled.worded (worded-behind_model users);
+      alike = alike-bind (ready_pass model users) (ready_pass model users) served served settled.alike settled.alike
+          (λ readings a b p q. alike-found (jobs.Serve a.model a.commands) (jobs.Serve b.model b.commands));
+      worded = worded-behind (ready_pass model users) served settled.worded (λ ready readings stops. stops);
+    }
+settled-plan (Explain model users) =
+    let settled = settled-ready model users in
+    record {
+      alike = alike-bind (ready_pass model users) (ready_pass model users) explained explained settled.alike settled.alike
+          (λ readings a b p q. alike-found (jobs.Explain a.model) (jobs.Explain b.model));
+      worded = worded-behind (ready_pass model users) explained settled.worded (λ ready readings stops. stops);
     }
 settled-plan (Check model) =
     let settled = settled-model model in

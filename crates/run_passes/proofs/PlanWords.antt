@@ -1,12 +1,16 @@
 -- Words ask for one plan at most.
-use Rattle.std.proofs.Common.{◌≡◌, ℕ, List, [], ◌∷◌, ◌++◌, Bool, true, false, ◌&&◌, IsTrue, codes, inl, inr, sym, ◌∙◌, ap, subst}
+use Rattle.std.proofs.Common.{◌≡◌, ℕ, List, [], ◌∷◌, ◌++◌, Bool, true, false, ◌&&◌, IsTrue, codes, inl, inr, sym, ◌∙◌, ap, subst, ap₂}
 use Rattle.std.proofs.lemmas.List.{append_cancel_left}
 use Rattle.std.specs.List.{list_all}
 use Rattle.std.specs.Str.Parse.{digits_value}
-use Rattle.cube_words.specs.Words.{Plan, Run, Check, Feeders, Sample, IsPlan, IsFlagged, IsCheck, IsFeeders, IsSample, names_a_file}
+use Rattle.std.proofs.lemmas.Bool.{and_parts}
+use Rattle.cube_words.specs.Words.{Plan, Run, Check, Explain, Feeders, Sample, IsPlan, IsFlagged, IsCheck, IsExplain, IsFeeders, IsSample, names_a_file}
 
 first-of : {A : Type 0} (x y : A) (xs ys : List A) → x ∷ xs ≡ y ∷ ys → x ≡ y
 first-of x y xs ys same = cc
+
+behind-first : {A : Type 0} (x y : A) (xs ys : List A) → x ∷ xs ≡ y ∷ ys → xs ≡ ys
+behind-first x y xs ys same = cc
 
 second-of : {A : Type 0} (x y a b : A) (xs ys : List A) → a ∷ x ∷ xs ≡ b ∷ y ∷ ys → x ≡ y
 second-of x y a b xs ys same = cc
@@ -33,6 +37,12 @@ module _ (words : List (List ℕ)) (files : IsTrue (list_all names_a_file words)
   no-flagged flag model flagged = elim flagged.all [
     | inl is ↦ no-first flag (model ∷ []) is
     | inr is ↦ no-second model flag is
+  ]
+
+  no-explain : (model : List ℕ) (users : List (List ℕ)) → IsExplain words model users → ⊥
+  no-explain model users asks = elim asks.all [
+    | inl is ↦ no-first (codes "-explain") (model ∷ users) is
+    | inr is ↦ no-second model (codes "-explain") is.1
   ]
 
   no-sample : (size : ℕ) → IsSample words size → ⊥
@@ -83,6 +93,54 @@ module _ (words : List (List ℕ)) where
         ]
       ]
 
+  -- an explanation is asked for by its flag alone
+  explained-file : (model : List ℕ) (users : List (List ℕ)) → IsExplain words model users → IsTrue (names_a_file model)
+  explained-file model users asks = (and_parts (names_a_file model) (list_all names_a_file users) asks.files).0
+
+  no-explain-flagged : (flag x y : List ℕ) (users : List (List ℕ)) → IsExplain words x users → IsFlagged (45 ∷ flag) words y
+      → (codes "--explain" ≡ 45 ∷ flag → ⊥) → ⊥
+  no-explain-flagged flag x y users p q other =
+      let f = codes "--explain" in
+      let g = 45 ∷ flag in
+      elim p.all [
+        | inl is ↦ elim q.all [
+          | inl too ↦ other (first-of f g (x ∷ users) (y ∷ []) (sym is ∙ too))
+          | inr too ↦ no-flag y (codes "-explain") (sym (first-of f y (x ∷ users) (g ∷ []) (sym is ∙ too))) q.file
+        ]
+        | inr is ↦ elim q.all [
+          | inl too ↦ no-flag x flag (first-of x g (f ∷ []) (y ∷ []) (sym is.1 ∙ too)) (explained-file x users p)
+          | inr too ↦ other (second-of f g x y [] [] (sym is.1 ∙ too))
+        ]
+      ]
+
+  no-explain-sample : (model : List ℕ) (users : List (List ℕ)) (size : ℕ) → IsExplain words model users → IsSample words size → ⊥
+  no-explain-sample model users size p q =
+      let f = codes "--explain" in
+      elim p.all [
+        | inl is ↦ elim q.2 [
+          | inl too ↦ (let flags = first-of f (codes "--sample") (model ∷ users) (q.0 ∷ []) (sym is ∙ too) in cc)
+          | inr too ↦ (let both : f ∷ model ∷ users ≡ (codes "--sample=" ++ q.0) ∷ [] = sym is ∙ too in cc)
+        ]
+        | inr is ↦ elim q.2 [
+          | inl too ↦ no-flag model (codes "-sample") (first-of model (codes "--sample") (f ∷ []) (q.0 ∷ []) (sym is.1 ∙ too)) (explained-file model users p)
+          | inr too ↦ (let both : model ∷ f ∷ [] ≡ (codes "--sample=" ++ q.0) ∷ [] = sym is.1 ∙ too in cc)
+        ]
+      ]
+
+  one-explained : (x y : List ℕ) (us vs : List (List ℕ)) → IsExplain words x us → IsExplain words y vs → x ∷ us ≡ y ∷ vs
+  one-explained x y us vs p q =
+      let f = codes "--explain" in
+      elim p.all [
+        | inl is ↦ elim q.all [
+          | inl too ↦ behind-first f f (x ∷ us) (y ∷ vs) (sym is ∙ too)
+          | inr too ↦ absurd (no-flag y (codes "-explain") (sym (first-of f y (x ∷ us) (f ∷ []) (sym is ∙ too.1))) (explained-file y vs q))
+        ]
+        | inr is ↦ elim q.all [
+          | inl too ↦ absurd (no-flag x (codes "-explain") (first-of x f (f ∷ []) (y ∷ vs) (sym is.1 ∙ too)) (explained-file x us p))
+          | inr too ↦ ap₂ ◌∷◌ (first-of x y (f ∷ []) (f ∷ []) (sym is.1 ∙ too.1)) (is.0 ∙ sym too.0)
+        ]
+      ]
+
   one-digits : (a b : ℕ) (p : IsSample words a) (q : IsSample words b) → p.0 ≡ q.0
   one-digits a b p q = elim p.2 [
     | inl is ↦ elim q.2 [
@@ -107,17 +165,26 @@ module _ (words : List (List ℕ)) where
   pub one_plan : (a b : Plan) → IsPlan words a → IsPlan words b → a ≡ b
   one_plan (Run model users) (Run other more) p q = (let same : model ∷ users ≡ other ∷ more = sym p.all ∙ q.all in cc)
   one_plan (Run model users) (Check other) p q = absurd (no-flagged words p.files (codes "-check") other q)
+  one_plan (Run model users) (Explain other more) p q = absurd (no-explain words p.files other more q)
   one_plan (Run model users) (Feeders other) p q = absurd (no-flagged words p.files (codes "-feeders") other q)
   one_plan (Run model users) (Sample size) p q = absurd (no-sample words p.files size q)
   one_plan (Check model) (Run other users) p q = absurd (no-flagged words q.files (codes "-check") model p)
   one_plan (Check model) (Check other) p q = ap Check (one-model (codes "-check") model other p q)
+  one_plan (Check model) (Explain other users) p q = absurd (no-explain-flagged (codes "-check") other model users q p (λ same. cc))
   one_plan (Check model) (Feeders other) p q = absurd (no-two-flags model other p q)
   one_plan (Check model) (Sample size) p q = absurd (no-check-sample model size p q)
+  one_plan (Explain model users) (Run other more) p q = absurd (no-explain words q.files model users p)
+  one_plan (Explain model users) (Check other) p q = absurd (no-explain-flagged (codes "-check") model other users p q (λ same. cc))
+  one_plan (Explain model users) (Explain other more) p q = (let same = one-explained model other users more p q in cc)
+  one_plan (Explain model users) (Feeders other) p q = absurd (no-explain-flagged (codes "-feeders") model other users p q (λ same. cc))
+  one_plan (Explain model users) (Sample size) p q = absurd (no-explain-sample model users size p q)
   one_plan (Feeders model) (Run other users) p q = absurd (no-flagged words q.files (codes "-feeders") model p)
   one_plan (Feeders model) (Check other) p q = absurd (no-two-flags other model q p)
+  one_plan (Feeders model) (Explain other users) p q = absurd (no-explain-flagged (codes "-feeders") other model users q p (λ same. cc))
   one_plan (Feeders model) (Feeders other) p q = ap Feeders (one-model (codes "-feeders") model other p q)
   one_plan (Feeders model) (Sample size) p q = absurd (no-feeders-sample model size p q)
   one_plan (Sample size) (Run other users) p q = absurd (no-sample words q.files size p)
   one_plan (Sample size) (Check other) p q = absurd (no-check-sample other size q p)
+  one_plan (Sample size) (Explain other users) p q = absurd (no-explain-sample other users size q p)
   one_plan (Sample size) (Feeders other) p q = absurd (no-feeders-sample other size q p)
   one_plan (Sample size) (Sample other) p q = ap Sample (one-size size other p q)

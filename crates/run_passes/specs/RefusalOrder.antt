@@ -2,7 +2,7 @@
 use Rattle.std.specs.Prelude.{ℕ, ◌+◌, ◌^◌, List}
 use Rattle.cube_outside.specs.declared.files.Extent.{Extent}
 use Rattle.cube_outside.specs.declared.files.Extent.TheVariants.{Whole, Front}
-use Rattle.cube_words.specs.Words.{Plan, Run, Check, Feeders, Sample, IsPlan}
+use Rattle.cube_words.specs.Words.{Plan, Run, Check, Explain, Feeders, Sample, IsPlan}
 use Rattle.file_passes.specs.Pass.{Pass, NotWords, found, the, file, files, judged, ◌>>=◌}
 use Rattle.model_text.specs.Contents.{Contents, script_names}
 use Rattle.model_bind.specs.declared.bound.Bound.{Bound}
@@ -11,6 +11,7 @@ use Rattle.script_bound.specs.declared.script.BoundScript.{BoundScript}
 use Rattle.sandbox.specs.declared.act.Act.{Act}
 use Rattle.user_session.specs.declared.command.PlanCommand.{PlanCommand}
 use Rattle.user_text.specs.declared.command.UserCommand.{UserCommand}
+use Rattle.run_passes.specs.declared.ready.Ready.{Ready}
 use Rattle.run_passes.specs.declared.run_job.RunJob.{RunJob}
 use Rattle.run_passes.specs.declared.run_job.RunJob.TheVariants as jobs
 use Rattle.judged_files.specs.Models.{text_judgement}
@@ -75,16 +76,25 @@ records_pass model_files users = do
   sources ← files Whole (record_files users)
   judged (commands_judgement model_files sources users)
 
--- the passes of each plan
-abbrev pub plan_pass : Plan → Pass RunJob
-plan_pass (Run model users) = do
+-- the model, and the commands of its users as they are run
+abbrev pub ready_pass : List ℕ → List (List ℕ) → Pass Ready
+ready_pass model users = do
   checked ← model_pass model
   texts ← users_pass checked.files.script_names users
   commands ← records_pass checked.files texts
-  found (jobs.Serve checked.model commands)
+  found (record { model = checked.model; commands = commands })
+
+-- the passes of each plan; an explanation has those of a run
+abbrev pub plan_pass : Plan → Pass RunJob
+plan_pass (Run model users) = do
+  ready ← ready_pass model users
+  found (jobs.Serve ready.model ready.commands)
 plan_pass (Check model) = do
   checked ← model_pass model
   found (jobs.Check checked.model)
+plan_pass (Explain model users) = do
+  ready ← ready_pass model users
+  found (jobs.Explain ready.model)
 plan_pass (Feeders model) = do
   contents ← text_pass model
   bound ← bind_pass model contents

@@ -10,8 +10,10 @@ mod feeders_passes;
 mod laws;
 mod model_passes;
 mod passes;
+mod ready;
 mod run_job;
 
 pub use laws::fronts_read_alike;
 pub use passes::run_passes;
+pub use ready::Ready;
 pub use run_job::RunJob;

@@ -1,13 +1,14 @@
 ghost use Rattle.std.specs.Prelude.{◌≡◌};
-ghost use Rattle.cube_words.specs.Words.{asked, Check, Run, texts_of};
+ghost use Rattle.cube_words.specs.Words.{asked, Check, Explain, Run, texts_of};
 ghost use Rattle.file_passes.specs.Halting.{Comes};
 ghost use Rattle.file_passes.specs.Outside.{outside};
 ghost use Rattle.judged_files.specs.Users.{AreKnown};
 ghost use Rattle.run_passes.specs.Inside.Plans.{behind_model, behind_users};
-ghost use Rattle.run_passes.specs.RefusalOrder.{users_pass, records_pass, plan_pass, run_of};
+ghost use Rattle.run_passes.specs.RefusalOrder.{users_pass, records_pass, ready_pass, plan_pass, run_of};
 
 use crate::feeders_passes::feeders_plan_pass;
 use crate::model_passes::{AS_TEXT, Checked, model_pass};
+use crate::ready::Ready;
 use crate::run_job::RunJob;
 use cube_outside::{Extent, Files};
 use cube_words::{Plan, WordsFault, words as plan_of};
@@ -84,6 +85,7 @@ fn plan_pass<F: Files>(
     match plan {
         Plan::Run { model, users } => run_pass(alloc, files, readings, model, users),
         Plan::Check { model } => check_pass(alloc, files, readings, model),
+        Plan::Explain { model, users } => explain_pass(alloc, files, readings, model, users),
         Plan::Feeders { model } => feeders_plan_pass(alloc, files, readings, model),
         Plan::Sample { size } => Ok(RunJob::Sample(*size)),
     }
@@ -114,6 +116,36 @@ fn run_pass<F: Files>(
     ensures { Comes (plan_pass (Run model.now (texts_of users.now)))
         (outside F.seen files.old files.new) readings.old readings.new result }
 {
+    let ready = ready_pass(alloc, files, readings, model, users)?;
+    Ok(RunJob::Serve(ready.model, ready.commands))
+}
+
+// The passes of an explanation, which are those of a run.
+fn explain_pass<F: Files>(
+    alloc: Global,
+    files: &mut F,
+    readings: &mut Readings,
+    model: &str,
+    users: &[String],
+) -> Result<RunJob, Halt>
+    ensures { Comes (plan_pass (Explain model.now (texts_of users.now)))
+        (outside F.seen files.old files.new) readings.old readings.new result }
+{
+    let ready = ready_pass(alloc, files, readings, model, users)?;
+    Ok(RunJob::Explain(ready.model))
+}
+
+// The model, and the commands of its users.
+fn ready_pass<F: Files>(
+    alloc: Global,
+    files: &mut F,
+    readings: &mut Readings,
+    model: &str,
+    users: &[String],
+) -> Result<Ready, Halt>
+    ensures { Comes (ready_pass model.now (texts_of users.now))
+        (outside F.seen files.old files.new) readings.old readings.new result }
+{
     let checked = model_pass(alloc, files, readings, model)?;
     behind_model(alloc, files, readings, users, checked)
 }
@@ -125,7 +157,7 @@ fn behind_model<F: Files>(
     readings: &mut Readings,
     users: &[String],
     checked: Checked,
-) -> Result<RunJob, Halt>
+) -> Result<Ready, Halt>
     ensures { Comes (behind_model (texts_of users.now) checked)
         (outside F.seen files.old files.new) readings.old readings.new result }
 {
@@ -142,13 +174,16 @@ fn behind_users<F: Files>(
     readings: &mut Readings,
     checked: Checked,
     texts: ListOf<ListOf<UserCommand>>,
-) -> Result<RunJob, Halt>
+) -> Result<Ready, Halt>
     requires { AreKnown checked.files.script_names texts }
     ensures { Comes (behind_users checked texts) (outside F.seen files.old files.new)
         readings.old readings.new result }
 {
     let commands = records_pass(alloc, files, readings, &checked.files, texts)?;
-    Ok(RunJob::Serve(checked.model, commands))
+    Ok(Ready {
+        model: checked.model,
+        commands,
+    })
 }
 
 /// All passes of a run.

@@ -11,6 +11,8 @@ pub enum RunJob {
     Serve(Accepted, ListOf<ListOf<Act<PlanCommand>>>),
     /// Tells that the model is accepted, with its rules and scripts.
     Check(Accepted),
+    /// The same, also of the users' files. No user is run.
+    Explain(Accepted),
     /// Prints the feeders that are found for the model.
     Feeders(Bound),
     /// Runs the generated sample of so many records.

@@ -8,6 +8,7 @@ use Rattle.script_bound.specs.declared.script.BoundScript.{BoundScript}
 use Rattle.sandbox.specs.declared.act.Act.{Act}
 use Rattle.user_session.specs.declared.command.PlanCommand.{PlanCommand}
 use Rattle.user_text.specs.declared.command.UserCommand.{UserCommand}
+use Rattle.run_passes.specs.declared.ready.Ready.{Ready}
 use Rattle.run_passes.specs.declared.run_job.RunJob.{RunJob}
 use Rattle.run_passes.specs.declared.run_job.RunJob.TheVariants as jobs
 use Rattle.run_passes.specs.RefusalOrder.{deploy_pass, bind_pass, scripts_pass, users_pass, records_pass}
@@ -37,14 +38,23 @@ behind_text name contents =
 
 -- ---- of a run
 
-abbrev pub served : Checked → List (List (Act PlanCommand)) → Pass RunJob
-served checked commands = found (jobs.Serve checked.model commands)
+abbrev pub ready_of : BoundModel → List (List (Act PlanCommand)) → Ready
+ready_of model commands = record { model = model; commands = commands }
 
-abbrev pub behind_users : Checked → List (List UserCommand) → Pass RunJob
-behind_users checked texts = records_pass checked.files texts >>= served checked
+abbrev pub behind_records : Checked → List (List (Act PlanCommand)) → Pass Ready
+behind_records checked commands = found (ready_of checked.model commands)
 
-abbrev pub behind_model : List (List ℕ) → Checked → Pass RunJob
+abbrev pub behind_users : Checked → List (List UserCommand) → Pass Ready
+behind_users checked texts = records_pass checked.files texts >>= behind_records checked
+
+abbrev pub behind_model : List (List ℕ) → Checked → Pass Ready
 behind_model users checked = users_pass checked.files.script_names users >>= behind_users checked
+
+abbrev pub served : Ready → Pass RunJob
+served ready = found (jobs.Serve ready.model ready.commands)
+
+abbrev pub explained : Ready → Pass RunJob
+explained ready = found (jobs.Explain ready.model)
 
 -- ---- of feeders
 

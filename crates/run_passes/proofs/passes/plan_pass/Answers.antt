@@ -10,6 +10,9 @@ returns-in-Run g c = rw c.in-Run.is c.run_pass.ensures
 pub returns-in-Check : goal.returns-in-Check
 returns-in-Check g c = rw c.in-Check.is c.check_pass.ensures
 
+pub returns-in-Explain : goal.returns-in-Explain
+returns-in-Explain g c = rw c.in-Explain.is c.explain_pass.ensures
+
 pub returns-in-Feeders : goal.returns-in-Feeders
 returns-in-Feeders g c = rw c.in-Feeders.is c.feeders_plan_pass.ensures
 
