@@ -32,10 +32,12 @@ abbrev pub most_digits : ℕ
 most_digits = 6
 
 -- what the words ask for: to run these users' commands on the model, each by the name of its file; to check the model;
--- to print the feeders that are found for the model; or to run a sample of so many records and sum it up
+-- to check the model and these users' files, and explain a refusal; to print the feeders that are found for the model;
+-- or to run a sample of so many records and sum it up
 pub data Plan : Type 0 where
   Run : List ℕ → List (List ℕ) → Plan
   Check : List ℕ → Plan
+  Explain : List ℕ → List (List ℕ) → Plan
   Feeders : List ℕ → Plan
   Sample : ℕ → Plan
 
@@ -57,6 +59,12 @@ IsCheck words model = IsFlagged (codes "--check") words model
 abbrev pub IsFeeders : List (List ℕ) → List ℕ → Type 0
 IsFeeders words model = IsFlagged (codes "--feeders") words model
 
+-- the words are the flag and MODEL, in either order, or the flag, MODEL and up to 16 users
+pub record IsExplain (words : List (List ℕ)) (model : List ℕ) (users : List (List ℕ)) : Type 0 where
+  pub all : (words ≡ codes "--explain" ∷ model ∷ users) ⊎ ((users ≡ []) × (words ≡ model ∷ codes "--explain" ∷ []))
+  pub few : length users ≤ most_users
+  pub files : IsTrue (list_all names_a_file (model ∷ users))
+
 -- digits, with a value from 1 to the most: so there is a digit
 pub record IsSize (digits : List ℕ) (size : ℕ) : Type 0 where
   pub digits_only : IsTrue (list_all is_ascii_digit digits)
@@ -73,6 +81,7 @@ IsSample words size = (digits : List ℕ) × IsSize digits size
 abbrev pub IsPlan : List (List ℕ) → Plan → Type 0
 IsPlan words (Run model users) = IsRun words model users
 IsPlan words (Check model) = IsCheck words model
+IsPlan words (Explain model users) = IsExplain words model users
 IsPlan words (Feeders model) = IsFeeders words model
 IsPlan words (Sample size) = IsSample words size
 
@@ -80,5 +89,6 @@ IsPlan words (Sample size) = IsSample words size
 abbrev pub asked : declared.Plan → Plan
 asked (plans.Run model users) = Run model.now (texts_of users.now)
 asked (plans.Check model) = Check model.now
+asked (plans.Explain model users) = Explain model.now (texts_of users.now)
 asked (plans.Feeders model) = Feeders model.now
 asked (plans.Sample size) = Sample size

@@ -1,6 +1,7 @@
 ghost use Rattle.std.specs.Prelude.{◌≡◌, IfOk, false};
 ghost use Rattle.clap.specs.Words.{app_of, rule_of};
-ghost use Rattle.cube_words.specs.Inside.Command.{check_rule, cube, feeders_rule, model_rule, sample_rule, users_rule};
+ghost use Rattle.cube_words.specs.Inside.Command.{check_rule, cube, explain_rule, feeders_rule, model_rule};
+ghost use Rattle.cube_words.specs.Inside.Command.{sample_rule, users_rule};
 
 use clap::{Arg, ArgAction, Command};
 use std::alloc::{AllocError, Global};
@@ -23,6 +24,15 @@ fn feeders_flag<'a>(alloc: Global) -> Arg<'a>
 {
     Arg::new(alloc, "feeders")
         .long("feeders")
+        .action(ArgAction::SetTrue)
+}
+
+fn explain_flag<'a>(alloc: Global) -> Arg<'a>
+    ensures local { result.global ≡ false }
+    ensures rule { rule_of result ≡ explain_rule }
+{
+    Arg::new(alloc, "explain")
+        .long("explain")
         .action(ArgAction::SetTrue)
 }
 
@@ -50,6 +60,7 @@ pub(crate) fn command<'a>(alloc: Global) -> Result<Command<'a>, AllocError>
         .disable_version_flag(true)
         .arg(check_flag(alloc))?
         .arg(feeders_flag(alloc))?
+        .arg(explain_flag(alloc))?
         .arg(sample_option(alloc))?
         .arg(Arg::new(alloc, "model"))?
         .arg(users_after_the_model(alloc))

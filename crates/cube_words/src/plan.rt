@@ -5,6 +5,8 @@ pub enum Plan<'a> {
     Run { model: &'a str, users: &'a [String] },
     /// The model is checked, with its rules and scripts.
     Check { model: &'a str },
+    /// The model and these users' files are checked, no user is run, and a refusal is explained.
+    Explain { model: &'a str, users: &'a [String] },
     /// The feeders that are found for the model's statements are printed as text for its rule files.
     Feeders { model: &'a str },
     /// The generated sample of so many records is run and summed up.

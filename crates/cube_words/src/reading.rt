@@ -40,19 +40,26 @@ fn plan_of<'a>(words: &'a [String], matches: &ArgMatches<'a>) -> Option<Plan<'a>
 {
     let check = matches.get_flag("check");
     let feeders = matches.get_flag("feeders");
+    let explain = matches.get_flag("explain");
     let size = matches.get_str("sample");
     let model = matches.get_str("model");
     let user = matches.get_str("users");
-    match (check, feeders, size, model, user) {
-        (false, false, None, Some(model), Some(_)) => {
+    match (check, feeders, explain, size, model, user) {
+        (false, false, false, None, Some(model), Some(_)) => {
             let [_, users @ ..] = words else {
                 return None;
             };
             Some(Plan::Run { model, users })
         }
-        (true, false, None, Some(model), None) => Some(Plan::Check { model }),
-        (false, true, None, Some(model), None) => Some(Plan::Feeders { model }),
-        (false, false, Some(size), None, None) => match size_of(size) {
+        (true, false, false, None, Some(model), None) => Some(Plan::Check { model }),
+        (false, true, false, None, Some(model), None) => Some(Plan::Feeders { model }),
+        (false, false, true, None, Some(model), _) => {
+            let [_, _, users @ ..] = words else {
+                return None;
+            };
+            Some(Plan::Explain { model, users })
+        }
+        (false, false, false, Some(size), None, None) => match size_of(size) {
             Some(size) => Some(Plan::Sample { size }),
             None => None,
         },

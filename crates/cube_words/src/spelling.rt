@@ -40,15 +40,16 @@ fn name_files(words: &[String]) -> bool
     true
 }
 
-/// Whether each word names a file, or is a long flag where there are at most two words.
+/// Whether each word names a file, or is a long flag that stands first or among at most two words.
 ///
 /// `clap` alone takes an empty word and `-` for a file, and `--` for the end of the flags.
 pub(crate) fn are_spelled(words: &[String]) -> bool
     ensures { result ≡ are_spelled (texts_of words.now) }
 {
     match words {
+        [] => true,
         [word] => is_spelled(word.as_str()),
         [first, second] => is_spelled(first.as_str()) && is_spelled(second.as_str()),
-        _ => name_files(words),
+        [first, files @ ..] => is_spelled(first.as_str()) && name_files(files),
     }
 }

@@ -14,17 +14,21 @@ goes_on _ = false
 abbrev pub is_spelled : List ℕ → Bool
 is_spelled word = names_a_file word || goes_on word
 
--- a long flag stands among at most two words; each other word names a file
+-- a long flag stands first, or among at most two words; each other word names a file
 abbrev pub are_spelled : List (List ℕ) → Bool
+are_spelled [] = true
 are_spelled (a ∷ []) = is_spelled a
 are_spelled (a ∷ b ∷ []) = is_spelled a && is_spelled b
-are_spelled words = list_all names_a_file words
+are_spelled (a ∷ b ∷ c ∷ rest) = is_spelled a && list_all names_a_file (b ∷ c ∷ rest)
 
 abbrev pub check_rule : Rule
 check_rule = record (new_rule (codes "check")) { long = Some (codes "check"); action = Some SetTrue }
 
 abbrev pub feeders_rule : Rule
 feeders_rule = record (new_rule (codes "feeders")) { long = Some (codes "feeders"); action = Some SetTrue }
+
+abbrev pub explain_rule : Rule
+explain_rule = record (new_rule (codes "explain")) { long = Some (codes "explain"); action = Some SetTrue }
 
 abbrev pub sample_rule : Rule
 sample_rule = record (new_rule (codes "sample")) { long = Some (codes "sample") }
@@ -44,5 +48,5 @@ plain = on_top (λ shape. record shape { no_binary_name = true; disable_help_fla
 
 abbrev pub cube : App
 cube =
-    with_rule (with_rule (with_rule (with_rule (with_rule plain check_rule) feeders_rule) sample_rule) model_rule)
-    users_rule
+    with_rule (with_rule (with_rule (with_rule (with_rule (with_rule plain check_rule) feeders_rule) explain_rule)
+    sample_rule) model_rule) users_rule
