@@ -22,6 +22,7 @@ pub data Sort (w : Text) : Type 0 where
   file : names_a_file w ≡ true → Sort w
   check : w ≡ codes "--check" → Sort w
   feeders : w ≡ codes "--feeders" → Sort w
+  explain : w ≡ codes "--explain" → Sort w
   sample : w ≡ codes "--sample" → Sort w
   given : (v : Text) → w ≡ codes "--sample=" ++ v → Sort w
   refused : IsRefused w → Sort w
@@ -55,25 +56,29 @@ module _ (w n : Text) (dashes : bytes_eq w (45 ∷ 45 ∷ []) ≡ false) where
   abbrev Spells : Option Text → Type 0
   Spells v = (long_of w ≡ Some (n, v)) × (w ≡ 45 ∷ 45 ∷ (n ++ joined v))
 
-  by_name : (v : Option Text) (a f s : Bool) → bytes_eq (codes "check") n ≡ a → bytes_eq (codes "feeders") n ≡ f
-      → bytes_eq (codes "sample") n ≡ s → Spells v → Sort w
-  by_name None true f s ea ef es (long, is) = check (is ∙ ap (λ x. 45 ∷ 45 ∷ (x ++ [])) (same (codes "check") n ea))
-  by_name (Some v) true f s ea ef es (long, is) =
+  by_name : (v : Option Text) (a f x s : Bool) → bytes_eq (codes "check") n ≡ a → bytes_eq (codes "feeders") n ≡ f
+      → bytes_eq (codes "explain") n ≡ x → bytes_eq (codes "sample") n ≡ s → Spells v → Sort w
+  by_name None true f x s ea ef ex es (long, is) = check (is ∙ ap (λ y. 45 ∷ 45 ∷ (y ++ [])) (same (codes "check") n ea))
+  by_name (Some v) true f x s ea ef ex es (long, is) =
       refused (record { dashes = dashes; kind = kinds.TooManyValues; refused = λ h. rw (long, ea) refl })
-  by_name None false true s ea ef es (long, is) = feeders (is ∙ ap (λ x. 45 ∷ 45 ∷ (x ++ [])) (same (codes "feeders") n ef))
-  by_name (Some v) false true s ea ef es (long, is) =
+  by_name None false true x s ea ef ex es (long, is) = feeders (is ∙ ap (λ y. 45 ∷ 45 ∷ (y ++ [])) (same (codes "feeders") n ef))
+  by_name (Some v) false true x s ea ef ex es (long, is) =
       refused (record { dashes = dashes; kind = kinds.TooManyValues; refused = λ h. rw (long, ea, ef) refl })
-  by_name None false false true ea ef es (long, is) = sample (is ∙ ap (λ x. 45 ∷ 45 ∷ (x ++ [])) (same (codes "sample") n es))
-  by_name (Some v) false false true ea ef es (long, is) = given v (is ∙ ap (λ x. 45 ∷ 45 ∷ (x ++ 61 ∷ v)) (same (codes "sample") n es))
-  by_name v false false false ea ef es (long, is) =
-      refused (record { dashes = dashes; kind = kinds.UnknownArgument; refused = λ h. rw (long, ea, ef, es) refl })
+  by_name None false false true s ea ef ex es (long, is) = explain (is ∙ ap (λ y. 45 ∷ 45 ∷ (y ++ [])) (same (codes "explain") n ex))
+  by_name (Some v) false false true s ea ef ex es (long, is) =
+      refused (record { dashes = dashes; kind = kinds.TooManyValues; refused = λ h. rw (long, ea, ef, ex) refl })
+  by_name None false false false true ea ef ex es (long, is) = sample (is ∙ ap (λ y. 45 ∷ 45 ∷ (y ++ [])) (same (codes "sample") n es))
+  by_name (Some v) false false false true ea ef ex es (long, is) =
+      given v (is ∙ ap (λ y. 45 ∷ 45 ∷ (y ++ 61 ∷ v)) (same (codes "sample") n es))
+  by_name v false false false false ea ef ex es (long, is) =
+      refused (record { dashes = dashes; kind = kinds.UnknownArgument; refused = λ h. rw (long, ea, ef, ex, es) refl })
 
 behind_dash : (cs : Text) → is_spelled (45 ∷ cs) ≡ true → Sort (45 ∷ cs)
 behind_dash [] spelled = cc spelled
 behind_dash (d ∷ []) spelled = cc spelled
 behind_dash (d ∷ x ∷ xs) spelled =
     let is : d ≡ 45 = grind (arith, nat_tests) in
-    rw is (by_name (45 ∷ 45 ∷ x ∷ xs) (name_and_value (x ∷ xs)).0 refl (name_and_value (x ∷ xs)).1 _ _ _ refl refl refl
+    rw is (by_name (45 ∷ 45 ∷ x ∷ xs) (name_and_value (x ∷ xs)).0 refl (name_and_value (x ∷ xs)).1 _ _ _ _ refl refl refl refl
     (refl, ap (λ ys. 45 ∷ 45 ∷ ys) (sym (rejoin (x ∷ xs)))))
 
 pub sort_of : (w : Text) → is_spelled w ≡ true → Sort w

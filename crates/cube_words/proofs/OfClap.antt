@@ -1,5 +1,6 @@
--- What `clap` makes of the model and of any number of users.
+-- What `clap` makes of the model and of any number of users, behind no word, a flag or a size.
 use Rattle.std.proofs.Common.{◌≡◌, ◌∙◌, suc, List, [], ◌∷◌, ◌++◌, Bool, false, true, Option, Some, None, ap, ap₂, sym, refl, codes, length, append_assoc, append-nil, fold, arith, is_some, cond, nat_lt, ◌==◌}
+use Rattle.std.specs.Prelude.{⊤}
 use Rattle.std.specs.Str.{bytes_eq}
 use Rattle.std.specs.List.{list_all}
 use Rattle.std.proofs.lemmas.Bool.{and_parts}
@@ -25,12 +26,13 @@ rules_here = top.rules
 
 -- the texts that the getters read
 abbrev pub Seen : Type 0
-Seen = Option Text × Option Text × Option Text × Option Text × Option Text
+Seen = Option Text × Option Text × Option Text × Option Text × Option Text × Option Text
 
 abbrev seen_in : List Row → Seen
 seen_in rows = (
   one_of (codes "check") rows,
   one_of (codes "feeders") rows,
+  one_of (codes "explain") rows,
   first_of (codes "sample") rows,
   first_of (codes "model") rows,
   first_of (codes "users") rows,
@@ -51,68 +53,123 @@ plain_file (c ∷ cs) file =
     let other : (c == 45) ≡ false = grind (arith, nat_tests) in
     record { dashes = rw other refl; long = rw other refl; short = rw other refl }
 
--- where the walk stands after the model and these users
-abbrev at_users : Text → List Text → Walk
-at_users m us = record {
-  held = record {
-    rows = record { id = codes "model"; values = m ∷ []; count = None; source = Some CommandLine; reading = AsWritten } ∷ [];
-    pending = Some (codes "users", us);
-    skip = 0;
-  };
-  waiting = positional;
-  position = 2;
-  is_trailing = false;
-  stopped = None;
-}
+-- what stands before the model: no word, a flag, or a size as one word or as two
+pub data Before : Type 0 where
+  nothing : Before
+  checking : Before
+  feeding : Before
+  explaining : Before
+  joined_size : Text → Before
+  apart_size : Text → Before
 
-more_words : (m : Text) (us : List Text) (w : Text) → IsPlain w → walked rules_here [] (at_users m us) w ≡ at_users m (us ++ w ∷ [])
-unfolding clap_on_literals
-more_words m us w p = rw (p.dashes, p.long, p.short) refl
+abbrev pub words_before : Before → List Text
+words_before nothing = []
+words_before checking = codes "--check" ∷ []
+words_before feeding = codes "--feeders" ∷ []
+words_before explaining = codes "--explain" ∷ []
+words_before (joined_size v) = (codes "--sample=" ++ v) ∷ []
+words_before (apart_size v) = codes "--sample" ∷ v ∷ []
 
-no_turn_fault : (m : Text) (us : List Text) (w : Text) → IsPlain w → turn_fault top [] (at_users m us) w ≡ []
-unfolding clap_on_literals
-no_turn_fault m us w p = rw (p.dashes, p.long, p.short) refl
+-- a size that is a word of its own is no flag
+abbrev pub IsClear : Before → Type 0
+IsClear (apart_size v) = IsPlain v
+IsClear _ = ⊤
 
-pub first_and_rest : (u : Text) (us : List Text) → list_all names_a_file (u ∷ us) ≡ true → (names_a_file u ≡ true) × (list_all names_a_file us ≡ true)
-first_and_rest u us files = and_parts (names_a_file u) (list_all names_a_file us) files
+abbrev given : Text → Text → Row
+given id value = record { id = id; values = value ∷ []; count = None; source = Some CommandLine; reading = AsWritten }
 
-walk_more : (m : Text) (vs us : List Text) → list_all names_a_file us ≡ true → fold (walked rules_here []) (at_users m vs) us ≡ at_users m (vs ++ us)
-walk_more m vs [] files = ap (at_users m) (sym (append-nil vs))
-walk_more m vs (u ∷ us) files =
-    let (file, rest) = first_and_rest u us files in
-    ap (λ w. fold (walked rules_here []) w us) (more_words m vs u (plain_file u file))
-    ∙ walk_more m (vs ++ u ∷ []) us rest ∙ ap (at_users m) (append_assoc vs (u ∷ []) us)
+abbrev rows_before : Before → List Row
+rows_before nothing = []
+rows_before checking = given (codes "check") (codes "true") ∷ []
+rows_before feeding = given (codes "feeders") (codes "true") ∷ []
+rows_before explaining = given (codes "explain") (codes "true") ∷ []
+rows_before (joined_size v) = given (codes "sample") v ∷ []
+rows_before (apart_size v) = given (codes "sample") v ∷ []
 
-fault_more : (m : Text) (vs us : List Text) → list_all names_a_file us ≡ true → walk_fault top [] (at_users m vs) us ≡ []
-unfolding walk_fault
-fault_more m vs [] files = refl
-fault_more m vs (u ∷ us) files =
-    let (file, rest) = first_and_rest u us files in
-    ap₂ or_else (no_turn_fault m vs u (plain_file u file))
-    (ap (λ w. walk_fault top [] w us) (more_words m vs u (plain_file u file)) ∙ fault_more m (vs ++ u ∷ []) us rest)
+abbrev rows_with : Before → Text → List Row
+rows_with b m = rows_before b ++ given (codes "model") m ∷ []
 
--- the walk after the model
-abbrev pub start : Walk
-start = walk_from nothing_held
-
-abbrev at_model : Text → Walk
-at_model m = record {
-  held = record { rows = []; pending = Some (codes "model", m ∷ []); skip = 0 };
+-- where the walk stands after the model
+abbrev at_model : List Row → Text → Walk
+at_model rows m = record {
+  held = record { rows = rows; pending = Some (codes "model", m ∷ []); skip = 0 };
   waiting = idle;
   position = 2;
   is_trailing = false;
   stopped = None;
 }
 
-first_word : (m : Text) → IsPlain m → (walked rules_here [] start m ≡ at_model m) × (turn_fault top [] start m ≡ [])
-unfolding clap_on_literals
-first_word m p = (rw (p.dashes, p.long, p.short) refl, rw (p.dashes, p.long, p.short) refl)
+-- where it stands after these users
+abbrev at_users : List Row → List Text → Walk
+at_users rows us = record {
+  held = record { rows = rows; pending = Some (codes "users", us); skip = 0 };
+  waiting = positional;
+  position = 2;
+  is_trailing = false;
+  stopped = None;
+}
 
-second_word : (m u : Text) → IsPlain u → (walked rules_here [] (at_model m) u ≡ at_users m (u ∷ [])) × (turn_fault top [] (at_model m) u ≡ [])
+more_words : (rows : List Row) (us : List Text) (w : Text) → IsPlain w → walked rules_here [] (at_users rows us) w ≡ at_users rows (us ++ w ∷ [])
 unfolding clap_on_literals
-second_word m u p = (rw (p.dashes, p.long, p.short) refl, rw (p.dashes, p.long, p.short) refl)
+more_words rows us w p = rw (p.dashes, p.long, p.short) refl
 
-module _ (m u : Text) (us : List Text) (files : list_all names_a_file (m ∷ u ∷ us) ≡ true) where
+no_turn_fault : (rows : List Row) (us : List Text) (w : Text) → IsPlain w → turn_fault top [] (at_users rows us) w ≡ []
+unfolding clap_on_literals
+no_turn_fault rows us w p = rw (p.dashes, p.long, p.short) refl
+
+pub first_and_rest : (u : Text) (us : List Text) → list_all names_a_file (u ∷ us) ≡ true → (names_a_file u ≡ true) × (list_all names_a_file us ≡ true)
+first_and_rest u us files = and_parts (names_a_file u) (list_all names_a_file us) files
+
+walk_more : (rows : List Row) (vs us : List Text) → list_all names_a_file us ≡ true → fold (walked rules_here []) (at_users rows vs) us ≡ at_users rows (vs ++ us)
+walk_more rows vs [] files = ap (at_users rows) (sym (append-nil vs))
+walk_more rows vs (u ∷ us) files =
+    let (file, rest) = first_and_rest u us files in
+    ap (λ w. fold (walked rules_here []) w us) (more_words rows vs u (plain_file u file))
+    ∙ walk_more rows (vs ++ u ∷ []) us rest ∙ ap (at_users rows) (append_assoc vs (u ∷ []) us)
+
+fault_more : (rows : List Row) (vs us : List Text) → list_all names_a_file us ≡ true → walk_fault top [] (at_users rows vs) us ≡ []
+unfolding walk_fault
+fault_more rows vs [] files = refl
+fault_more rows vs (u ∷ us) files =
+    let (file, rest) = first_and_rest u us files in
+    ap₂ or_else (no_turn_fault rows vs u (plain_file u file))
+    (ap (λ w. walk_fault top [] w us) (more_words rows vs u (plain_file u file)) ∙ fault_more rows (vs ++ u ∷ []) us rest)
+
+-- the walk up to the model
+abbrev pub start : Walk
+start = walk_from nothing_held
+
+walk_to_model : (b : Before) (m : Text) (us : List Text) → IsClear b → IsPlain m
+    → walk rules_here [] nothing_held (words_before b ++ m ∷ us) ≡ fold (walked rules_here []) (at_model (rows_before b) m) us
+unfolding clap_on_literals
+walk_to_model nothing m us clear p = rw (p.dashes, p.long, p.short) refl
+walk_to_model checking m us clear p = rw (p.dashes, p.long, p.short) refl
+walk_to_model feeding m us clear p = rw (p.dashes, p.long, p.short) refl
+walk_to_model explaining m us clear p = rw (p.dashes, p.long, p.short) refl
+walk_to_model (joined_size v) m us clear p = rw (p.dashes, p.long, p.short) refl
+walk_to_model (apart_size v) m us clear p = rw (clear.dashes, clear.long, clear.short, p.dashes, p.long, p.short) refl
+
+fault_to_model : (b : Before) (m : Text) (us : List Text) → IsClear b → IsPlain m
+    → walk_fault top [] start (words_before b ++ m ∷ us) ≡ walk_fault top [] (at_model (rows_before b) m) us
+unfolding clap_on_literals
+fault_to_model nothing m us clear p = rw (p.dashes, p.long, p.short) refl
+fault_to_model checking m us clear p = rw (p.dashes, p.long, p.short) refl
+fault_to_model feeding m us clear p = rw (p.dashes, p.long, p.short) refl
+fault_to_model explaining m us clear p = rw (p.dashes, p.long, p.short) refl
+fault_to_model (joined_size v) m us clear p = rw (p.dashes, p.long, p.short) refl
+fault_to_model (apart_size v) m us clear p = rw (clear.dashes, clear.long, clear.short, p.dashes, p.long, p.short) refl
+
+first_user : (b : Before) (m u : Text) → IsPlain u
+    → (walked rules_here [] (at_model (rows_before b) m) u ≡ at_users (rows_with b m) (u ∷ [])) × (turn_fault top [] (at_model (rows_before b) m) u ≡ [])
+unfolding clap_on_literals
+first_user nothing m u p = (rw (p.dashes, p.long, p.short) refl, rw (p.dashes, p.long, p.short) refl)
+first_user checking m u p = (rw (p.dashes, p.long, p.short) refl, rw (p.dashes, p.long, p.short) refl)
+first_user feeding m u p = (rw (p.dashes, p.long, p.short) refl, rw (p.dashes, p.long, p.short) refl)
+first_user explaining m u p = (rw (p.dashes, p.long, p.short) refl, rw (p.dashes, p.long, p.short) refl)
+first_user (joined_size v) m u p = (rw (p.dashes, p.long, p.short) refl, rw (p.dashes, p.long, p.short) refl)
+first_user (apart_size v) m u p = (rw (p.dashes, p.long, p.short) refl, rw (p.dashes, p.long, p.short) refl)
+
+module _ (b : Before) (m u : Text) (us : List Text) (clear : IsClear b) (files : list_all names_a_file (m ∷ u ∷ us) ≡ true) where
   model_plain : IsPlain m
   model_plain = plain_file m (first_and_rest m (u ∷ us) files).0
 
@@ -122,17 +179,14 @@ module _ (m u : Text) (us : List Text) (files : list_all names_a_file (m ∷ u �
   others : list_all names_a_file us ≡ true
   others = (first_and_rest u us (first_and_rest m (u ∷ us) files).1).1
 
-  two_words : walked rules_here [] (walked rules_here [] start m) u ≡ at_users m (u ∷ [])
-  two_words = ap (λ w. walked rules_here [] w u) (first_word m model_plain).0 ∙ (second_word m u user_plain).0
+  walk_of_run : walk rules_here [] nothing_held (words_before b ++ m ∷ u ∷ us) ≡ at_users (rows_with b m) (u ∷ us)
+  walk_of_run = walk_to_model b m (u ∷ us) clear model_plain
+      ∙ ap (λ w. fold (walked rules_here []) w us) (first_user b m u user_plain).0 ∙ walk_more (rows_with b m) (u ∷ []) us others
 
-  walk_of_run : walk rules_here [] nothing_held (m ∷ u ∷ us) ≡ at_users m (u ∷ us)
-  walk_of_run = ap (λ w. fold (walked rules_here []) w us) two_words ∙ walk_more m (u ∷ []) us others
-
-  walk_fault_of_run : walk_fault top [] start (m ∷ u ∷ us) ≡ []
+  walk_fault_of_run : walk_fault top [] start (words_before b ++ m ∷ u ∷ us) ≡ []
   unfolding walk_fault
-  walk_fault_of_run = ap₂ or_else (first_word m model_plain).1
-      (ap₂ or_else (ap (λ w. turn_fault top [] w u) (first_word m model_plain).0 ∙ (second_word m u user_plain).1)
-      (ap (λ w. walk_fault top [] w us) two_words ∙ fault_more m (u ∷ []) us others))
+  walk_fault_of_run = fault_to_model b m (u ∷ us) clear model_plain ∙ ap₂ or_else (first_user b m u user_plain).1
+      (ap (λ w. walk_fault top [] w us) (first_user b m u user_plain).0 ∙ fault_more (rows_with b m) (u ∷ []) us others)
 
 -- the faults and the getters' texts, by the walk
 abbrev fault_at : Kinds → Walk → Kinds
@@ -150,21 +204,64 @@ no_value_fault (u ∷ us) = no_value_fault us
 abbrev pub faults_of : Bool → Kinds
 faults_of too_many = cond too_many (TooManyValues ∷ []) []
 
-fault_at_users : (m u : Text) (us : List Text) (b : Bool) → nat_lt 16 (suc (length us)) ≡ b → fault_at [] (at_users m (u ∷ us)) ≡ faults_of b
-unfolding clap_on_literals
-fault_at_users m u us b many =
+module _ (us : List Text) where
+  fault_of_count : (x : Bool) → or_else (or_else (faults_of x) (values_fault users_rule us)) [] ≡ faults_of x
+  fault_of_count true = refl
+  fault_of_count false = ap (λ f. or_else f []) (no_value_fault us)
+
+  fault_at_users : (b : Before) (m u : Text) (x : Bool) → nat_lt 16 (suc (length us)) ≡ x
+      → (suc (length us) == 0) ≡ false → nat_lt (suc (length us)) 1 ≡ false → fault_at [] (at_users (rows_with b m) (u ∷ us)) ≡ faults_of x
+  unfolding clap_on_literals
+  fault_at_users nothing m u x many some enough = rw (some, enough, many) (fault_of_count x)
+  fault_at_users checking m u x many some enough = rw (some, enough, many) (fault_of_count x)
+  fault_at_users feeding m u x many some enough = rw (some, enough, many) (fault_of_count x)
+  fault_at_users explaining m u x many some enough = rw (some, enough, many) (fault_of_count x)
+  fault_at_users (joined_size v) m u x many some enough = rw (some, enough, many) (fault_of_count x)
+  fault_at_users (apart_size v) m u x many some enough = rw (some, enough, many) (fault_of_count x)
+
+pub fault_of_run : (b : Before) (m u : Text) (us : List Text) → IsClear b → list_all names_a_file (m ∷ u ∷ us) ≡ true
+    → fault_of cube (words_before b ++ m ∷ u ∷ us) ≡ faults_of (nat_lt 16 (suc (length us)))
+fault_of_run b m u us clear files =
     let some : (suc (length us) == 0) ≡ false = grind (arith, nat_tests) in
     let enough : nat_lt (suc (length us)) 1 ≡ false = grind (arith, nat_tests) in
-    rw (some, enough, many) (by b)
-  where
-    by : (x : Bool) → or_else (or_else (faults_of x) (values_fault users_rule us)) [] ≡ faults_of x
-    by true = refl
-    by false = ap (λ f. or_else f []) (no_value_fault us)
+    ap₂ fault_at (walk_fault_of_run b m u us clear files) (walk_of_run b m u us clear files) ∙ fault_at_users us b m u _ refl some enough
 
-pub fault_of_run : (m u : Text) (us : List Text) → list_all names_a_file (m ∷ u ∷ us) ≡ true
-    → fault_of cube (m ∷ u ∷ us) ≡ faults_of (nat_lt 16 (suc (length us)))
-fault_of_run m u us files = ap₂ fault_at (walk_fault_of_run m u us files) (walk_of_run m u us files) ∙ fault_at_users m u us _ refl
+-- what the getters read where these words stand before the model
+abbrev pub is_checking : Before → Bool
+is_checking checking = true
+is_checking _ = false
 
-pub seen_of_run : (m u : Text) (us : List Text) → list_all names_a_file (m ∷ u ∷ us) ≡ true
-    → seen (m ∷ u ∷ us) ≡ (Some (bool_text false), Some (bool_text false), None, Some m, Some u)
-seen_of_run m u us files = ap seen_at (walk_of_run m u us files)
+abbrev pub is_feeding : Before → Bool
+is_feeding feeding = true
+is_feeding _ = false
+
+abbrev pub is_explaining : Before → Bool
+is_explaining explaining = true
+is_explaining _ = false
+
+abbrev pub size_before : Before → Option Text
+size_before (joined_size v) = Some v
+size_before (apart_size v) = Some v
+size_before _ = None
+
+abbrev pub seen_before : Before → Text → Text → Seen
+seen_before b m u = (
+  Some (bool_text (is_checking b)),
+  Some (bool_text (is_feeding b)),
+  Some (bool_text (is_explaining b)),
+  size_before b,
+  Some m,
+  Some u,
+)
+
+seen_at_users : (b : Before) (m u : Text) (us : List Text) → seen_at (at_users (rows_with b m) (u ∷ us)) ≡ seen_before b m u
+seen_at_users nothing m u us = refl
+seen_at_users checking m u us = refl
+seen_at_users feeding m u us = refl
+seen_at_users explaining m u us = refl
+seen_at_users (joined_size v) m u us = refl
+seen_at_users (apart_size v) m u us = refl
+
+pub seen_of_run : (b : Before) (m u : Text) (us : List Text) → IsClear b → list_all names_a_file (m ∷ u ∷ us) ≡ true
+    → seen (words_before b ++ m ∷ u ∷ us) ≡ seen_before b m u
+seen_of_run b m u us clear files = ap seen_at (walk_of_run b m u us clear files) ∙ seen_at_users b m u us
