@@ -4,7 +4,7 @@ ghost use Rattle.script_bind.specs.Binding.{term_of, statement_of, case_of, in_o
 
 use crate::terms::{nothing, number_of, term_of, terms_of};
 use script_bound::{Case, Statement, Term};
-use script_tree::{Arm, Expr, Line};
+use script_tree::{Arm, Line};
 use sqlite_items::Items;
 use std::alloc::{AllocError, Global};
 use word_table::WordTable;
@@ -26,24 +26,20 @@ fn take_number(next: &mut u32) -> Result<u32, AllocError>
 
 /// What is written, and the names of the cell.
 #[tactic(auto, unfolding(crate::specs::Binding::written))]
-fn written(
-    alloc: Global,
-    words: &WordTable,
-    arguments: &[Expr],
-) -> Result<(Term, Items<Term>), AllocError>
-    ensures { IfOk result (λ written. written ≡ bound.written (map (term_of words.now) arguments.now)) }
+fn written(alloc: Global, mut terms: Vec<Term>) -> (Term, Items<Term>)
+    ensures { result ≡ bound.written terms.items }
 {
-    match arguments {
-        [value, names @ ..] => {
-            let value = term_of(alloc, words, value)?;
-            let names = terms_of(alloc, words, names)?;
-            Ok((value, names))
-        }
-        [] => Ok((nothing(alloc), Items::new(alloc))),
+    if terms.is_empty() {
+        (nothing(alloc), Items::new(alloc))
+    } else {
+        let value = terms.remove(0);
+        (value, Items::from_vec(terms))
     }
 }
 
 /// A statement with the next number, and those in it with the numbers behind it.
+///
+/// The test of a `WHILE` is bound last, so that no bare term waits for what can fail.
 #[cycle(statements)]
 fn statement_of(
     alloc: Global,
@@ -62,16 +58,18 @@ fn statement_of(
             Ok(Statement::Assign(number, place, given))
         }
         Line::Put(arguments) => {
-            let (value, names) = written(alloc, words, arguments.as_slice())?;
+            let terms = terms_of(alloc, words, arguments.as_slice())?;
+            let (value, names) = written(alloc, terms);
             Ok(Statement::Put(number, value, names))
         }
         Line::Increment(arguments) => {
-            let (value, names) = written(alloc, words, arguments.as_slice())?;
+            let terms = terms_of(alloc, words, arguments.as_slice())?;
+            let (value, names) = written(alloc, terms);
             Ok(Statement::Increment(number, value, names))
         }
         Line::ZeroOut(arguments) => {
             let names = terms_of(alloc, words, arguments.as_slice())?;
-            Ok(Statement::ZeroOut(number, names))
+            Ok(Statement::ZeroOut(number, Items::from_vec(names)))
         }
         Line::Skip => Ok(Statement::Skip(number)),
         Line::Break => Ok(Statement::Break(number)),
@@ -81,8 +79,8 @@ fn statement_of(
             Ok(Statement::If(number, cases))
         }
         Line::While(test, lines) => {
-            let test = term_of(alloc, words, test)?;
             let statements = statements_of(alloc, words, lines.as_slice(), next)?;
+            let test = term_of(alloc, words, test)?;
             Ok(Statement::While(number, test, statements))
         }
     }
@@ -108,7 +106,7 @@ pub(crate) fn statements_of(
     Ok(Items::from_vec(statements))
 }
 
-/// A block of an `IF`.
+/// A block of an `IF`. Its test is bound last, as that of a `WHILE`.
 #[cycle(statements)]
 fn case_of(alloc: Global, words: &WordTable, arm: &Arm, next: &mut u32) -> Result<Case, AllocError>
     ensures bound { IfOk result (λ case. case ≡ (case_of words.now arm.now next.old).0) }
@@ -116,8 +114,8 @@ fn case_of(alloc: Global, words: &WordTable, arm: &Arm, next: &mut u32) -> Resul
 {
     match arm {
         Arm::When(test, lines) => {
-            let test = term_of(alloc, words, test)?;
             let statements = statements_of(alloc, words, lines.as_slice(), next)?;
+            let test = term_of(alloc, words, test)?;
             Ok(Case::When(test, statements))
         }
         Arm::Otherwise(lines) => {

@@ -1,9 +1,7 @@
-ghost use Rattle.std.specs.Prelude.{◌≡◌, ◌-◌, map, IfOk};
+ghost use Rattle.std.specs.Prelude.{◌≡◌, ◌≢◌, ◌-◌, length, map, IfOk, MatchOption};
 ghost use Rattle.script_bind.specs.Binding as bound;
-ghost use Rattle.script_bind.specs.Binding.{term_of, call_term, function_term, operation_term, to_number, to_text};
-ghost use Rattle.script_bind.specs.Binding.{element_name};
-ghost use Rattle.script_bind.specs.Binding.{altered_term, long_term, scan_term, subst_term, str_term};
-ghost use Rattle.script_bound.specs.declared.term.Term.TheVariants as terms;
+ghost use Rattle.script_bind.specs.Binding.{term_of};
+ghost use Rattle.script_bound.specs.declared.term.Term.TheVariants as variants;
 
 use crate::operator::{Operator, operator_of};
 use grammar::is_column;
@@ -76,59 +74,191 @@ pub(crate) fn nothing(alloc: Global) -> Term
     Term::Get(Items::new(alloc))
 }
 
-/// Two operands of an operation on numbers.
-fn amounts(alloc: Global, op: Op, left: Term, right: Term) -> Result<Term, AllocError>
-    ensures { IfOk result (λ term. term ≡ terms.Amounts op left right) }
+/// The same terms, each in a box.
+fn boxes_of(alloc: Global, terms: Vec<Term>) -> Result<Vec<Boxed<Term>>, AllocError>
+    ensures { IfOk result (λ boxes. boxes.items ≡ terms.items) }
 {
-    let left = Boxed::new(alloc, left)?;
-    let right = Boxed::new(alloc, right)?;
-    Ok(Term::Amounts(op, left, right))
+    let mut boxes = Vec::new(alloc);
+    'each: for term in terms {
+        let term = Boxed::new(alloc, term)?;
+        boxes.push(term)?;
+    }
+    Ok(boxes)
 }
 
-/// Where a text stands in another one.
-fn scan(alloc: Global, part: Term, inner: Term) -> Result<Term, AllocError>
-    ensures { IfOk result (λ term. term ≡ terms.Scan part inner) }
+/// The terms of a list, where it has just so many.
+fn parts<const N: usize>(
+    alloc: Global,
+    terms: Vec<Term>,
+) -> Result<Option<[Boxed<Term>; N]>, AllocError>
+    ensures { IfOk result (λ found. MatchOption found (length terms.items ≢ N) (λ parts. parts ≡ terms.items)) }
 {
-    let part = Boxed::new(alloc, part)?;
-    let inner = Boxed::new(alloc, inner)?;
-    Ok(Term::Scan(part, inner))
+    let boxes = boxes_of(alloc, terms)?;
+    match <[Boxed<Term>; N]>::try_from(boxes) {
+        Ok(parts) => Ok(Some(parts)),
+        Err(_) => Ok(None),
+    }
 }
 
-/// Characters of a text.
-fn subst(alloc: Global, inner: Term, start: Term, count: Term) -> Result<Term, AllocError>
-    ensures { IfOk result (λ term. term ≡ terms.Subst inner start count) }
+/// A function of one number.
+#[tactic(auto, unfolding(crate::specs::Binding::function_term))]
+fn function_term(alloc: Global, function: Fun, terms: Vec<Term>) -> Result<Term, AllocError>
+    ensures { IfOk result (λ term. term ≡ bound.function_term function terms.items) }
 {
-    let inner = Boxed::new(alloc, inner)?;
-    let start = Boxed::new(alloc, start)?;
-    let count = Boxed::new(alloc, count)?;
-    Ok(Term::Subst(inner, start, count))
+    match parts::<1>(alloc, terms)? {
+        Some([inner]) => Ok(Term::Amount(function, inner)),
+        None => Ok(nothing(alloc)),
+    }
+}
+
+/// An operation on two numbers.
+#[tactic(auto, unfolding(crate::specs::Binding::operation_term))]
+fn operation_term(alloc: Global, op: Op, terms: Vec<Term>) -> Result<Term, AllocError>
+    ensures { IfOk result (λ term. term ≡ bound.operation_term op terms.items) }
+{
+    match parts::<2>(alloc, terms)? {
+        Some([left, right]) => Ok(Term::Amounts(op, left, right)),
+        None => Ok(nothing(alloc)),
+    }
+}
+
+/// The number that a text says.
+#[tactic(auto, unfolding(crate::specs::Binding::to_number))]
+fn to_number(alloc: Global, terms: Vec<Term>) -> Result<Term, AllocError>
+    ensures { IfOk result (λ term. term ≡ bound.to_number terms.items) }
+{
+    match parts::<1>(alloc, terms)? {
+        Some([inner]) => Ok(Term::ToNumber(inner)),
+        None => Ok(nothing(alloc)),
+    }
 }
 
 /// A number as a text.
-fn written(alloc: Global, inner: Term, width: Term, decimals: Term) -> Result<Term, AllocError>
-    ensures { IfOk result (λ term. term ≡ terms.Str inner width decimals) }
+#[tactic(auto, unfolding(crate::specs::Binding::to_text))]
+fn to_text(alloc: Global, terms: Vec<Term>) -> Result<Term, AllocError>
+    ensures { IfOk result (λ term. term ≡ bound.to_text terms.items) }
 {
-    let inner = Boxed::new(alloc, inner)?;
-    let width = Boxed::new(alloc, width)?;
-    let decimals = Boxed::new(alloc, decimals)?;
-    Ok(Term::Str(inner, width, decimals))
+    match parts::<1>(alloc, terms)? {
+        Some([inner]) => Ok(Term::ToText(inner)),
+        None => Ok(nothing(alloc)),
+    }
+}
+
+/// A function of one text, which gives a text.
+#[tactic(auto, unfolding(crate::specs::Binding::altered_term))]
+fn altered_term(alloc: Global, function: TextFun, terms: Vec<Term>) -> Result<Term, AllocError>
+    ensures { IfOk result (λ term. term ≡ bound.altered_term function terms.items) }
+{
+    match parts::<1>(alloc, terms)? {
+        Some([inner]) => Ok(Term::Altered(function, inner)),
+        None => Ok(nothing(alloc)),
+    }
+}
+
+/// How many characters a text has.
+#[tactic(auto, unfolding(crate::specs::Binding::long_term))]
+fn long_term(alloc: Global, terms: Vec<Term>) -> Result<Term, AllocError>
+    ensures { IfOk result (λ term. term ≡ bound.long_term terms.items) }
+{
+    match parts::<1>(alloc, terms)? {
+        Some([inner]) => Ok(Term::Long(inner)),
+        None => Ok(nothing(alloc)),
+    }
+}
+
+/// Where a text stands in another one.
+#[tactic(auto, unfolding(crate::specs::Binding::scan_term))]
+fn scan_term(alloc: Global, terms: Vec<Term>) -> Result<Term, AllocError>
+    ensures { IfOk result (λ term. term ≡ bound.scan_term terms.items) }
+{
+    match parts::<2>(alloc, terms)? {
+        Some([part, inner]) => Ok(Term::Scan(part, inner)),
+        None => Ok(nothing(alloc)),
+    }
+}
+
+/// Characters of a text.
+#[tactic(auto, unfolding(crate::specs::Binding::subst_term))]
+fn subst_term(alloc: Global, terms: Vec<Term>) -> Result<Term, AllocError>
+    ensures { IfOk result (λ term. term ≡ bound.subst_term terms.items) }
+{
+    match parts::<3>(alloc, terms)? {
+        Some([inner, start, count]) => Ok(Term::Subst(inner, start, count)),
+        None => Ok(nothing(alloc)),
+    }
+}
+
+/// A number as a text of a width, with some decimals.
+#[tactic(auto, unfolding(crate::specs::Binding::str_term))]
+fn str_term(alloc: Global, terms: Vec<Term>) -> Result<Term, AllocError>
+    ensures { IfOk result (λ term. term ≡ bound.str_term terms.items) }
+{
+    match parts::<3>(alloc, terms)? {
+        Some([inner, width, decimals]) => Ok(Term::Str(inner, width, decimals)),
+        None => Ok(nothing(alloc)),
+    }
 }
 
 /// The name of the element at a place of a dimension.
-fn named(alloc: Global, dimension: Term, place: Term) -> Result<Term, AllocError>
-    ensures { IfOk result (λ term. term ≡ terms.ElementName dimension place) }
+#[tactic(auto, unfolding(crate::specs::Binding::element_name))]
+fn element_name(alloc: Global, terms: Vec<Term>) -> Result<Term, AllocError>
+    ensures { IfOk result (λ term. term ≡ bound.element_name terms.items) }
 {
-    let dimension = Boxed::new(alloc, dimension)?;
-    let place = Boxed::new(alloc, place)?;
-    Ok(Term::ElementName(dimension, place))
+    match parts::<2>(alloc, terms)? {
+        Some([dimension, place]) => Ok(Term::ElementName(dimension, place)),
+        None => Ok(nothing(alloc)),
+    }
+}
+
+/// What is asked of a dimension or of one of its elements, by their names.
+fn element_term(function: ElementFun, terms: Vec<Term>) -> Term
+    ensures { result ≡ variants.Element function terms.items }
+{
+    Term::Element(function, Items::from_vec(terms))
+}
+
+/// A function with these arguments.
+#[tactic(auto, unfolding(crate::specs::Binding::call_term))]
+fn call_term(alloc: Global, function: ScriptFun, terms: Vec<Term>) -> Result<Term, AllocError>
+    ensures { IfOk result (λ term. term ≡ bound.call_term function terms.items) }
+{
+    match function {
+        ScriptFun::CellGetN => Ok(Term::Get(Items::from_vec(terms))),
+        ScriptFun::Abs => function_term(alloc, Fun::Abs, terms),
+        ScriptFun::Sign => function_term(alloc, Fun::Sign, terms),
+        ScriptFun::Int => function_term(alloc, Fun::Int, terms),
+        ScriptFun::Round => function_term(alloc, Fun::Round, terms),
+        ScriptFun::StringToNumber => to_number(alloc, terms),
+        ScriptFun::NumberToString => to_text(alloc, terms),
+        ScriptFun::Max => operation_term(alloc, Op::Max, terms),
+        ScriptFun::Min => operation_term(alloc, Op::Min, terms),
+        ScriptFun::Trim => altered_term(alloc, TextFun::Trim, terms),
+        ScriptFun::Upper => altered_term(alloc, TextFun::Upper, terms),
+        ScriptFun::Lower => altered_term(alloc, TextFun::Lower, terms),
+        ScriptFun::Long => long_term(alloc, terms),
+        ScriptFun::Scan => scan_term(alloc, terms),
+        ScriptFun::Subst => subst_term(alloc, terms),
+        ScriptFun::Str => str_term(alloc, terms),
+        ScriptFun::Mod => operation_term(alloc, Op::Mod, terms),
+        ScriptFun::RoundP => operation_term(alloc, Op::RoundTo, terms),
+        ScriptFun::Trunc => function_term(alloc, Fun::Trunc, terms),
+        ScriptFun::ElementCount => Ok(element_term(ElementFun::Count, terms)),
+        ScriptFun::ElementName => element_name(alloc, terms),
+        ScriptFun::ElementPlace => Ok(element_term(ElementFun::Place, terms)),
+        ScriptFun::ElementKind => Ok(element_term(ElementFun::Kind, terms)),
+        ScriptFun::AttributeText => Ok(element_term(ElementFun::Text, terms)),
+        ScriptFun::AttributeNumber => Ok(element_term(ElementFun::Number, terms)),
+        ScriptFun::IsAncestor => Ok(element_term(ElementFun::IsAncestor, terms)),
+        ScriptFun::CellIsUpdateable => Ok(Term::IsUpdateable(Items::from_vec(terms))),
+    }
 }
 
 /// Two operands with an operator between them.
 #[tactic(auto, unfolding(crate::specs::Binding::operator_term))]
-fn between(operator: Operator, left: Boxed<Term>, right: Boxed<Term>) -> Term
-    ensures { result ≡ bound.operator_term operator left right }
+fn operator_term(op: ScriptOp, left: Boxed<Term>, right: Boxed<Term>) -> Term
+    ensures { result ≡ bound.operator_term (bound.operator_of op) left right }
 {
-    match operator {
+    match operator_of(op) {
         Operator::Amounts(op) => Term::Amounts(op, left, right),
         Operator::Compare(rel) => Term::Compare(rel, left, right),
         Operator::Join => Term::Join(left, right),
@@ -139,273 +269,59 @@ fn between(operator: Operator, left: Boxed<Term>, right: Boxed<Term>) -> Term
     }
 }
 
-fn operator_term(alloc: Global, op: ScriptOp, left: Term, right: Term) -> Result<Term, AllocError>
-    ensures { IfOk result (λ term. term ≡ bound.operator_term (bound.operator_of op) left right) }
+/// A text.
+fn text_term(alloc: Global, bytes: &[u8]) -> Result<Term, AllocError>
+    ensures { IfOk result (λ term. term ≡ variants.Text bytes.now) }
 {
-    let left = Boxed::new(alloc, left)?;
-    let right = Boxed::new(alloc, right)?;
-    Ok(between(operator_of(op), left, right))
+    let bytes = Vec::from_slice(alloc, bytes)?;
+    Ok(Term::Text(ListOf::new(bytes)))
 }
 
 /// An expression in which these are the variables.
+///
+/// Where memory ends, what is bound so far is dropped. A box is dropped by a call, a bare term by a case for each
+/// variant, which is long to prove. So a term goes into its box before the next one is bound.
 #[cycle(terms)]
 pub(crate) fn term_of(alloc: Global, words: &WordTable, expr: &Expr) -> Result<Term, AllocError>
     ensures { IfOk result (λ term. term ≡ term_of words.now expr.now) }
 {
     match expr {
         Expr::Number(number) => Ok(Term::Number(*number)),
-        Expr::Text(bytes) => {
-            let bytes = Vec::from_slice(alloc, bytes.as_slice())?;
-            Ok(Term::Text(ListOf::new(bytes)))
-        }
+        Expr::Text(bytes) => text_term(alloc, bytes.as_slice()),
         Expr::Variable(word) => Ok(word_term(words, word.as_slice())),
         Expr::Call(function, arguments) => {
-            call_term(alloc, words, *function, arguments.as_slice())
+            let terms = terms_of(alloc, words, arguments.as_slice())?;
+            call_term(alloc, *function, terms)
         }
         Expr::Minus(inner) => {
-            let inner = term_of(alloc, words, inner.get())?;
-            Ok(Term::Amount(Fun::Minus, Boxed::new(alloc, inner)?))
+            let inner = Boxed::new(alloc, term_of(alloc, words, inner.get())?)?;
+            Ok(Term::Amount(Fun::Minus, inner))
         }
         Expr::Not(inner) => {
-            let inner = term_of(alloc, words, inner.get())?;
-            Ok(Term::Not(Boxed::new(alloc, inner)?))
+            let inner = Boxed::new(alloc, term_of(alloc, words, inner.get())?)?;
+            Ok(Term::Not(inner))
         }
         Expr::Binary(op, left, right) => {
-            let left = term_of(alloc, words, left.get())?;
-            let right = term_of(alloc, words, right.get())?;
-            operator_term(alloc, *op, left, right)
+            let left = Boxed::new(alloc, term_of(alloc, words, left.get())?)?;
+            let right = Boxed::new(alloc, term_of(alloc, words, right.get())?)?;
+            Ok(operator_term(*op, left, right))
         }
     }
 }
 
+/// Expressions in which these are the variables.
 #[cycle(terms)]
 pub(crate) fn terms_of(
     alloc: Global,
     words: &WordTable,
     exprs: &[Expr],
-) -> Result<Items<Term>, AllocError>
-    ensures { IfOk result (λ terms. terms ≡ map (term_of words.now) exprs.now) }
+) -> Result<Vec<Term>, AllocError>
+    ensures { IfOk result (λ terms. terms.items ≡ map (term_of words.now) exprs.now) }
 {
     let mut terms = Vec::new(alloc);
     'each: for expr in exprs {
         let term = term_of(alloc, words, expr)?;
         terms.push(term)?;
     }
-    Ok(Items::from_vec(terms))
-}
-
-/// A function with these arguments.
-#[cycle(terms)]
-#[tactic(auto, unfolding(crate::specs::Binding::call_term))]
-fn call_term(
-    alloc: Global,
-    words: &WordTable,
-    function: ScriptFun,
-    arguments: &[Expr],
-) -> Result<Term, AllocError>
-    ensures { IfOk result (λ term. term ≡ call_term function (map (term_of words.now) arguments.now)) }
-{
-    match function {
-        ScriptFun::CellGetN => Ok(Term::Get(terms_of(alloc, words, arguments)?)),
-        ScriptFun::Abs => function_term(alloc, words, Fun::Abs, arguments),
-        ScriptFun::Sign => function_term(alloc, words, Fun::Sign, arguments),
-        ScriptFun::Int => function_term(alloc, words, Fun::Int, arguments),
-        ScriptFun::Round => function_term(alloc, words, Fun::Round, arguments),
-        ScriptFun::StringToNumber => to_number(alloc, words, arguments),
-        ScriptFun::NumberToString => to_text(alloc, words, arguments),
-        ScriptFun::Max => operation_term(alloc, words, Op::Max, arguments),
-        ScriptFun::Min => operation_term(alloc, words, Op::Min, arguments),
-        ScriptFun::Trim => altered_term(alloc, words, TextFun::Trim, arguments),
-        ScriptFun::Upper => altered_term(alloc, words, TextFun::Upper, arguments),
-        ScriptFun::Lower => altered_term(alloc, words, TextFun::Lower, arguments),
-        ScriptFun::Long => long_term(alloc, words, arguments),
-        ScriptFun::Scan => scan_term(alloc, words, arguments),
-        ScriptFun::Subst => subst_term(alloc, words, arguments),
-        ScriptFun::Str => str_term(alloc, words, arguments),
-        ScriptFun::Mod => operation_term(alloc, words, Op::Mod, arguments),
-        ScriptFun::RoundP => operation_term(alloc, words, Op::RoundTo, arguments),
-        ScriptFun::Trunc => function_term(alloc, words, Fun::Trunc, arguments),
-        ScriptFun::ElementCount => element_term(alloc, words, ElementFun::Count, arguments),
-        ScriptFun::ElementName => element_name(alloc, words, arguments),
-        ScriptFun::ElementPlace => element_term(alloc, words, ElementFun::Place, arguments),
-        ScriptFun::ElementKind => element_term(alloc, words, ElementFun::Kind, arguments),
-        ScriptFun::AttributeText => element_term(alloc, words, ElementFun::Text, arguments),
-        ScriptFun::AttributeNumber => element_term(alloc, words, ElementFun::Number, arguments),
-        ScriptFun::IsAncestor => element_term(alloc, words, ElementFun::IsAncestor, arguments),
-        ScriptFun::CellIsUpdateable => Ok(Term::IsUpdateable(terms_of(alloc, words, arguments)?)),
-    }
-}
-
-#[cycle(terms)]
-#[tactic(auto, unfolding(crate::specs::Binding::function_term))]
-fn function_term(
-    alloc: Global,
-    words: &WordTable,
-    function: Fun,
-    arguments: &[Expr],
-) -> Result<Term, AllocError>
-    ensures { IfOk result (λ term. term ≡ function_term function (map (term_of words.now) arguments.now)) }
-{
-    match arguments {
-        [inner] => {
-            let inner = term_of(alloc, words, inner)?;
-            Ok(Term::Amount(function, Boxed::new(alloc, inner)?))
-        }
-        _ => Ok(nothing(alloc)),
-    }
-}
-
-#[cycle(terms)]
-#[tactic(auto, unfolding(crate::specs::Binding::operation_term))]
-fn operation_term(
-    alloc: Global,
-    words: &WordTable,
-    op: Op,
-    arguments: &[Expr],
-) -> Result<Term, AllocError>
-    ensures { IfOk result (λ term. term ≡ operation_term op (map (term_of words.now) arguments.now)) }
-{
-    match arguments {
-        [left, right] => {
-            let left = term_of(alloc, words, left)?;
-            let right = term_of(alloc, words, right)?;
-            amounts(alloc, op, left, right)
-        }
-        _ => Ok(nothing(alloc)),
-    }
-}
-
-#[cycle(terms)]
-#[tactic(auto, unfolding(crate::specs::Binding::to_number))]
-fn to_number(alloc: Global, words: &WordTable, arguments: &[Expr]) -> Result<Term, AllocError>
-    ensures { IfOk result (λ term. term ≡ to_number (map (term_of words.now) arguments.now)) }
-{
-    match arguments {
-        [inner] => {
-            let inner = term_of(alloc, words, inner)?;
-            Ok(Term::ToNumber(Boxed::new(alloc, inner)?))
-        }
-        _ => Ok(nothing(alloc)),
-    }
-}
-
-#[cycle(terms)]
-#[tactic(auto, unfolding(crate::specs::Binding::to_text))]
-fn to_text(alloc: Global, words: &WordTable, arguments: &[Expr]) -> Result<Term, AllocError>
-    ensures { IfOk result (λ term. term ≡ to_text (map (term_of words.now) arguments.now)) }
-{
-    match arguments {
-        [inner] => {
-            let inner = term_of(alloc, words, inner)?;
-            Ok(Term::ToText(Boxed::new(alloc, inner)?))
-        }
-        _ => Ok(nothing(alloc)),
-    }
-}
-
-#[cycle(terms)]
-#[tactic(auto, unfolding(crate::specs::Binding::altered_term))]
-fn altered_term(
-    alloc: Global,
-    words: &WordTable,
-    function: TextFun,
-    arguments: &[Expr],
-) -> Result<Term, AllocError>
-    ensures { IfOk result (λ term. term ≡ altered_term function (map (term_of words.now) arguments.now)) }
-{
-    match arguments {
-        [inner] => {
-            let inner = term_of(alloc, words, inner)?;
-            Ok(Term::Altered(function, Boxed::new(alloc, inner)?))
-        }
-        _ => Ok(nothing(alloc)),
-    }
-}
-
-#[cycle(terms)]
-#[tactic(auto, unfolding(crate::specs::Binding::long_term))]
-fn long_term(alloc: Global, words: &WordTable, arguments: &[Expr]) -> Result<Term, AllocError>
-    ensures { IfOk result (λ term. term ≡ long_term (map (term_of words.now) arguments.now)) }
-{
-    match arguments {
-        [inner] => {
-            let inner = term_of(alloc, words, inner)?;
-            Ok(Term::Long(Boxed::new(alloc, inner)?))
-        }
-        _ => Ok(nothing(alloc)),
-    }
-}
-
-#[cycle(terms)]
-#[tactic(auto, unfolding(crate::specs::Binding::scan_term))]
-fn scan_term(alloc: Global, words: &WordTable, arguments: &[Expr]) -> Result<Term, AllocError>
-    ensures { IfOk result (λ term. term ≡ scan_term (map (term_of words.now) arguments.now)) }
-{
-    match arguments {
-        [part, inner] => {
-            let part = term_of(alloc, words, part)?;
-            let inner = term_of(alloc, words, inner)?;
-            scan(alloc, part, inner)
-        }
-        _ => Ok(nothing(alloc)),
-    }
-}
-
-#[cycle(terms)]
-#[tactic(auto, unfolding(crate::specs::Binding::subst_term))]
-fn subst_term(alloc: Global, words: &WordTable, arguments: &[Expr]) -> Result<Term, AllocError>
-    ensures { IfOk result (λ term. term ≡ subst_term (map (term_of words.now) arguments.now)) }
-{
-    match arguments {
-        [inner, start, count] => {
-            let inner = term_of(alloc, words, inner)?;
-            let start = term_of(alloc, words, start)?;
-            let count = term_of(alloc, words, count)?;
-            subst(alloc, inner, start, count)
-        }
-        _ => Ok(nothing(alloc)),
-    }
-}
-
-#[cycle(terms)]
-#[tactic(auto, unfolding(crate::specs::Binding::str_term))]
-fn str_term(alloc: Global, words: &WordTable, arguments: &[Expr]) -> Result<Term, AllocError>
-    ensures { IfOk result (λ term. term ≡ str_term (map (term_of words.now) arguments.now)) }
-{
-    match arguments {
-        [inner, width, decimals] => {
-            let inner = term_of(alloc, words, inner)?;
-            let width = term_of(alloc, words, width)?;
-            let decimals = term_of(alloc, words, decimals)?;
-            written(alloc, inner, width, decimals)
-        }
-        _ => Ok(nothing(alloc)),
-    }
-}
-
-#[cycle(terms)]
-fn element_term(
-    alloc: Global,
-    words: &WordTable,
-    function: ElementFun,
-    arguments: &[Expr],
-) -> Result<Term, AllocError>
-    ensures { IfOk result (λ term. term ≡ terms.Element function (map (term_of words.now) arguments.now)) }
-{
-    Ok(Term::Element(function, terms_of(alloc, words, arguments)?))
-}
-
-#[cycle(terms)]
-#[tactic(auto, unfolding(crate::specs::Binding::element_name))]
-fn element_name(alloc: Global, words: &WordTable, arguments: &[Expr]) -> Result<Term, AllocError>
-    ensures { IfOk result (λ term. term ≡ element_name (map (term_of words.now) arguments.now)) }
-{
-    match arguments {
-        [dimension, place] => {
-            let dimension = term_of(alloc, words, dimension)?;
-            let place = term_of(alloc, words, place)?;
-            named(alloc, dimension, place)
-        }
-        _ => Ok(nothing(alloc)),
-    }
+    Ok(terms)
 }
