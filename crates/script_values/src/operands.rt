@@ -8,39 +8,65 @@ ghost use Rattle.script_values.specs.Values as values;
 use crate::datum::Datum;
 use crate::load_reason::LoadReason;
 use crate::text::Text;
-use crate::wanted::{as_said, as_text, as_truth};
+use crate::wanted::as_said;
 use cube_fixed::{Value, print};
 use dim_name::is_same_name;
 use rule_laws::{Fun, Op, Rel};
 use std::alloc::{AllocError, Global};
 
-pub(crate) fn function<'a>(
-    function: Fun,
-    given: Result<Value, LoadReason>,
-) -> Result<Datum<'a>, LoadReason>
-    ensures { result ≡ values.done (λ value. data_of.Number (function_of function value)) given }
+/// What two operands give as texts.
+pub(crate) type TwoTexts<'a> = (Result<Text<'a>, LoadReason>, Result<Text<'a>, LoadReason>);
+
+/// What two operands give as truths.
+pub(crate) type TwoTruths = (Result<bool, LoadReason>, Result<bool, LoadReason>);
+
+/// A number, as what an expression gives.
+pub(crate) fn number<'a>(given: Result<Value, LoadReason>) -> Result<Datum<'a>, LoadReason>
+    ensures { result ≡ values.done (λ number. data_of.Number number) given }
 {
-    Ok(Datum::Number(function.apply(given?)))
+    Ok(Datum::Number(given?))
 }
 
-pub(crate) fn operation<'a>(
+/// A truth, in the same way.
+pub(crate) fn truth<'a>(given: Result<bool, LoadReason>) -> Result<Datum<'a>, LoadReason>
+    ensures { result ≡ values.done (λ holds. data_of.Truth holds) given }
+{
+    Ok(Datum::Truth(given?))
+}
+
+pub(crate) fn function(function: Fun, given: Result<Value, LoadReason>) -> Result<Value, LoadReason>
+    ensures value { result ≡ values.amount
+        (values.done (λ value. data_of.Number (function_of function value)) given) }
+    ensures datum { values.done (λ number. data_of.Number number) result
+        ≡ values.done (λ value. data_of.Number (function_of function value)) given }
+{
+    Ok(function.apply(given?))
+}
+
+pub(crate) fn operation(
     op: Op,
     left: Result<Value, LoadReason>,
     right: Result<Value, LoadReason>,
-) -> Result<Datum<'a>, LoadReason>
-    ensures { result ≡ values.one_and_other (λ a b. data_of.Number (operation_of op a b)) left right }
+) -> Result<Value, LoadReason>
+    ensures value { result ≡ values.amount
+        (values.one_and_other (λ a b. data_of.Number (operation_of op a b)) left right) }
+    ensures datum { values.done (λ number. data_of.Number number) result
+        ≡ values.one_and_other (λ a b. data_of.Number (operation_of op a b)) left right }
 {
-    Ok(Datum::Number(op.apply(left?, right?)))
+    Ok(op.apply(left?, right?))
 }
 
-pub(crate) fn comparison<'a>(
+pub(crate) fn comparison(
     rel: Rel,
     left: Result<Value, LoadReason>,
     right: Result<Value, LoadReason>,
-) -> Result<Datum<'a>, LoadReason>
-    ensures { result ≡ values.one_and_other (λ a b. data_of.Truth (comparison_of rel a b)) left right }
+) -> Result<bool, LoadReason>
+    ensures value { result ≡ values.truth
+        (values.one_and_other (λ a b. data_of.Truth (comparison_of rel a b)) left right) }
+    ensures datum { values.done (λ holds. data_of.Truth holds) result
+        ≡ values.one_and_other (λ a b. data_of.Truth (comparison_of rel a b)) left right }
 {
-    Ok(Datum::Truth(rel.holds(left?, right?)))
+    Ok(rel.holds(left?, right?))
 }
 
 pub(crate) fn number_in<'a>(given: Result<Datum<'a>, LoadReason>) -> Result<Datum<'a>, LoadReason>
@@ -86,78 +112,64 @@ fn both<'a>(
     Ok(Ok(Datum::Text(Text::owned(bytes))))
 }
 
-/// What two operands give as texts.
-fn two_texts<'a>(
-    left: Result<Datum<'a>, LoadReason>,
-    right: Result<Datum<'a>, LoadReason>,
-) -> Result<(Text<'a>, Text<'a>), LoadReason>
-    ensures { result ≡ values.one_and_other (λ a b. (a, b)) (values.text left.entry) (values.text right.entry) }
+/// Two texts, or the first reason why one isn't given.
+pub(crate) fn both_texts<'a>(given: TwoTexts<'a>) -> Result<(Text<'a>, Text<'a>), LoadReason>
+    ensures { result ≡ values.one_and_other (λ a b. (a, b)) given.entry.0 given.entry.1 }
 {
-    let left = as_text(left)?;
-    let right = as_text(right)?;
+    let (left, right) = given;
+    let left = left?;
+    let right = right?;
     Ok((left, right))
 }
 
 pub(crate) fn joined<'a>(
     alloc: Global,
-    left: Result<Datum<'a>, LoadReason>,
-    right: Result<Datum<'a>, LoadReason>,
+    given: TwoTexts<'a>,
 ) -> Result<Result<Datum<'a>, LoadReason>, AllocError>
-    ensures { IfOk result (λ answer. answer
-        ≡ values.taken values.joined
-        (values.one_and_other (λ a b. (a, b)) (values.text left.entry) (values.text right.entry))) }
+    ensures { IfOk result (λ answer. answer ≡ values.taken values.joined
+        (values.one_and_other (λ a b. (a, b)) given.entry.0 given.entry.1)) }
 {
-    match two_texts(left, right) {
+    match both_texts(given) {
         Ok((left, right)) => both(alloc, left.as_slice(), right.as_slice()),
         Err(reason) => Ok(Err(reason)),
     }
 }
 
-pub(crate) fn same<'a>(
-    left: Result<Datum<'a>, LoadReason>,
-    right: Result<Datum<'a>, LoadReason>,
-) -> Result<Datum<'a>, LoadReason>
-    ensures { result ≡ values.two_texts (λ a b. data_of.Truth (is_same_name a b)) left.entry right.entry }
+pub(crate) fn same<'a>(given: TwoTexts<'a>) -> Result<Datum<'a>, LoadReason>
+    ensures { result ≡ values.one_and_other (λ a b. data_of.Truth (is_same_name a b)) given.entry.0 given.entry.1 }
 {
-    let (left, right) = two_texts(left, right)?;
+    let (left, right) = both_texts(given)?;
     Ok(Datum::Truth(is_same_name(left.as_slice(), right.as_slice())))
 }
 
-pub(crate) fn other<'a>(
-    left: Result<Datum<'a>, LoadReason>,
-    right: Result<Datum<'a>, LoadReason>,
-) -> Result<Datum<'a>, LoadReason>
-    ensures { result ≡ values.two_texts (λ a b. data_of.Truth (not (is_same_name a b))) left.entry right.entry }
+pub(crate) fn other<'a>(given: TwoTexts<'a>) -> Result<Datum<'a>, LoadReason>
+    ensures { result
+        ≡ values.one_and_other (λ a b. data_of.Truth (not (is_same_name a b))) given.entry.0 given.entry.1 }
 {
-    let (left, right) = two_texts(left, right)?;
+    let (left, right) = both_texts(given)?;
     Ok(Datum::Truth(!is_same_name(left.as_slice(), right.as_slice())))
 }
 
-pub(crate) fn both_hold<'a>(
-    left: Result<Datum<'a>, LoadReason>,
-    right: Result<Datum<'a>, LoadReason>,
-) -> Result<Datum<'a>, LoadReason>
-    ensures { result ≡ values.truths ◌&&◌ left.entry right.entry }
+pub(crate) fn both_hold<'a>(given: TwoTruths) -> Result<Datum<'a>, LoadReason>
+    ensures { result ≡ values.one_and_other (λ a b. data_of.Truth (a && b)) given.0 given.1 }
 {
-    let left = as_truth(left)?;
-    let right = as_truth(right)?;
+    let (left, right) = given;
+    let left = left?;
+    let right = right?;
     Ok(Datum::Truth(left && right))
 }
 
-pub(crate) fn one_holds<'a>(
-    left: Result<Datum<'a>, LoadReason>,
-    right: Result<Datum<'a>, LoadReason>,
-) -> Result<Datum<'a>, LoadReason>
-    ensures { result ≡ values.truths ◌||◌ left.entry right.entry }
+pub(crate) fn one_holds<'a>(given: TwoTruths) -> Result<Datum<'a>, LoadReason>
+    ensures { result ≡ values.one_and_other (λ a b. data_of.Truth (a || b)) given.0 given.1 }
 {
-    let left = as_truth(left)?;
-    let right = as_truth(right)?;
+    let (left, right) = given;
+    let left = left?;
+    let right = right?;
     Ok(Datum::Truth(left || right))
 }
 
-pub(crate) fn opposite<'a>(given: Result<Datum<'a>, LoadReason>) -> Result<Datum<'a>, LoadReason>
-    ensures { result ≡ values.done (λ holds. data_of.Truth (not holds)) (values.truth given.entry) }
+pub(crate) fn opposite<'a>(given: Result<bool, LoadReason>) -> Result<Datum<'a>, LoadReason>
+    ensures { result ≡ values.done (λ holds. data_of.Truth (not holds)) given }
 {
-    let holds = as_truth(given)?;
-    Ok(Datum::Truth(!holds))
+    Ok(Datum::Truth(!given?))
 }

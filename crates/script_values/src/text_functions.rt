@@ -6,8 +6,8 @@ ghost use Rattle.script_values.specs.Values as values;
 use crate::characters;
 use crate::datum::Datum;
 use crate::load_reason::LoadReason;
+use crate::operands::{TwoTexts, both_texts};
 use crate::text::Text;
-use crate::wanted::as_text;
 use cube_fixed::Value;
 use script_bound::TextFun;
 use std::alloc::{AllocError, Global};
@@ -30,12 +30,12 @@ fn altered_text<'a>(
 pub(crate) fn altered<'a>(
     alloc: Global,
     function: TextFun,
-    given: Result<Datum<'a>, LoadReason>,
+    given: Result<Text<'a>, LoadReason>,
 ) -> Result<Result<Datum<'a>, LoadReason>, AllocError>
     ensures { IfOk result (λ answer. answer
-        ≡ values.done (λ bytes. data_of.Text (values.altered function bytes)) (values.text given.entry)) }
+        ≡ values.done (λ bytes. data_of.Text (values.altered function bytes)) given.entry) }
 {
-    match as_text(given) {
+    match given {
         Ok(text) => {
             let text = altered_text(alloc, function, text)?;
             Ok(Ok(Datum::Text(text)))
@@ -44,24 +44,19 @@ pub(crate) fn altered<'a>(
     }
 }
 
-pub(crate) fn count_of<'a>(given: Result<Datum<'a>, LoadReason>) -> Result<Datum<'a>, LoadReason>
-    ensures { result ≡ values.done (λ bytes. data_of.Number (units_of (character_count bytes)))
-        (values.text given.entry) }
+pub(crate) fn count_of<'a>(given: Result<Text<'a>, LoadReason>) -> Result<Datum<'a>, LoadReason>
+    ensures { result ≡ values.done (λ bytes. data_of.Number (units_of (character_count bytes))) given.entry }
 {
-    let text = as_text(given)?;
+    let text = given?;
     let count = characters::character_count(text.as_slice());
     Ok(Datum::Number(characters::units(count)))
 }
 
-pub(crate) fn place_of<'a>(
-    part: Result<Datum<'a>, LoadReason>,
-    given: Result<Datum<'a>, LoadReason>,
-) -> Result<Datum<'a>, LoadReason>
-    ensures { result ≡ values.two_texts (λ sought bytes. data_of.Number (units_of (place_in sought bytes)))
-        part.entry given.entry }
+pub(crate) fn place_of<'a>(given: TwoTexts<'a>) -> Result<Datum<'a>, LoadReason>
+    ensures { result ≡ values.one_and_other (λ sought bytes. data_of.Number (units_of (place_in sought bytes)))
+        given.entry.0 given.entry.1 }
 {
-    let part = as_text(part)?;
-    let text = as_text(given)?;
+    let (part, text) = both_texts(given)?;
     let place = characters::place_in(part.as_slice(), text.as_slice());
     Ok(Datum::Number(characters::units(place)))
 }

@@ -10,18 +10,19 @@ use crate::datum::Datum;
 use crate::elements::{asked, named_at, updateable};
 use crate::load_reason::LoadReason;
 use crate::operands::{
-    both_hold, comparison, function, joined, number_in, one_holds, operation, opposite, other,
-    same, text_of,
+    both_hold, comparison, function, joined, number, number_in, one_holds, operation, opposite,
+    other, same, text_of, truth,
 };
 use crate::padding::written;
 use crate::sight::Sight;
 use crate::text::Text;
 use crate::text_functions::{altered, count_of, cut, place_of};
-use crate::wanted::{as_amount, as_text};
+use crate::wanted::{as_amount, as_text, as_truth};
 use cube_fixed::Value;
 use lists::ListOf;
 use rule_laws::{Op, Rel};
 use script_bound::{ElementFun, Term};
+use sqlite_items::Boxed;
 use std::alloc::{AllocError, Global};
 
 /// The value of the cell of a cube and elements.
@@ -62,63 +63,34 @@ pub fn value_of<'a, C: WorkCells>(
         Term::Text(bytes) => Ok(Ok(Datum::Text(Text::borrowed(bytes.as_slice())))),
         Term::Variable(place) => Ok(sight.variable(*place)),
         Term::Column(place) => Ok(sight.column(*place)),
-        Term::Get(names) => value_in_cell(alloc, names.as_slice(), sight, cells),
+        Term::Get(names) => Ok(number(value_in_cell(alloc, names.as_slice(), sight, cells)?)),
         Term::Amount(fun, inner) => {
-            Ok(function(*fun, amount_of(alloc, inner.get(), sight, cells)?))
+            Ok(number(function(*fun, amount_of(alloc, inner.get(), sight, cells)?)))
         }
         Term::Amounts(op, left, right) => {
-            operated(alloc, *op, left.get(), right.get(), sight, cells)
+            Ok(number(operated(alloc, *op, left, right, sight, cells)?))
         }
         Term::Compare(rel, left, right) => {
-            compared(alloc, *rel, left.get(), right.get(), sight, cells)
+            Ok(truth(compared(alloc, *rel, left, right, sight, cells)?))
         }
         Term::ToNumber(inner) => Ok(number_in(value_of(alloc, inner.get(), sight, cells)?)),
         Term::ToText(inner) => text_of(alloc, amount_of(alloc, inner.get(), sight, cells)?),
         Term::Altered(fun, inner) => {
-            altered(alloc, *fun, value_of(alloc, inner.get(), sight, cells)?)
+            altered(alloc, *fun, text_at(alloc, inner.get(), sight, cells)?)
         }
-        Term::Long(inner) => Ok(count_of(value_of(alloc, inner.get(), sight, cells)?)),
-        Term::Scan(part, inner) => {
-            let (part, text) = two_values(alloc, part.get(), inner.get(), sight, cells)?;
-            Ok(place_of(part, text))
-        }
-        Term::Subst(inner, start, count) => {
-            cut_at(alloc, inner.get(), start.get(), count.get(), sight, cells)
-        }
+        Term::Long(inner) => Ok(count_of(text_at(alloc, inner.get(), sight, cells)?)),
+        Term::Scan(part, inner) => Ok(place_of(two_texts(alloc, part, inner, sight, cells)?)),
+        Term::Subst(inner, start, count) => cut_at(alloc, inner, start, count, sight, cells),
         Term::Str(inner, width, decimals) => {
-            written_at(
-                alloc,
-                inner.get(),
-                width.get(),
-                decimals.get(),
-                sight,
-                cells,
-            )
+            written_at(alloc, inner, width, decimals, sight, cells)
         }
-        Term::Join(left, right) => {
-            let (left, right) = two_values(alloc, left.get(), right.get(), sight, cells)?;
-            joined(alloc, left, right)
-        }
-        Term::Same(left, right) => {
-            let (left, right) = two_values(alloc, left.get(), right.get(), sight, cells)?;
-            Ok(same(left, right))
-        }
-        Term::Other(left, right) => {
-            let (left, right) = two_values(alloc, left.get(), right.get(), sight, cells)?;
-            Ok(other(left, right))
-        }
-        Term::And(left, right) => {
-            let (left, right) = two_values(alloc, left.get(), right.get(), sight, cells)?;
-            Ok(both_hold(left, right))
-        }
-        Term::Or(left, right) => {
-            let (left, right) = two_values(alloc, left.get(), right.get(), sight, cells)?;
-            Ok(one_holds(left, right))
-        }
-        Term::Not(inner) => Ok(opposite(value_of(alloc, inner.get(), sight, cells)?)),
-        Term::ElementName(dimension, place) => {
-            element_name(alloc, dimension.get(), place.get(), sight, cells)
-        }
+        Term::Join(left, right) => joined(alloc, two_texts(alloc, left, right, sight, cells)?),
+        Term::Same(left, right) => Ok(same(two_texts(alloc, left, right, sight, cells)?)),
+        Term::Other(left, right) => Ok(other(two_texts(alloc, left, right, sight, cells)?)),
+        Term::And(left, right) => Ok(both_hold(two_truths(alloc, left, right, sight, cells)?)),
+        Term::Or(left, right) => Ok(one_holds(two_truths(alloc, left, right, sight, cells)?)),
+        Term::Not(inner) => Ok(opposite(truth_of(alloc, inner.get(), sight, cells)?)),
+        Term::ElementName(dimension, place) => element_name(alloc, dimension, place, sight, cells),
         Term::Element(function, names) => {
             asked_of(alloc, *function, names.as_slice(), sight, cells)
         }
@@ -126,9 +98,10 @@ pub fn value_of<'a, C: WorkCells>(
     }
 }
 
-/// What an expression gives as a number. One that is a number, a variable or a column isn't made a datum first.
+/// What an expression gives as a number. A number, a variable, a column, a cell, and what a function of a number or an
+/// operation gives isn't made a datum first.
 #[cycle(values)]
-fn amount_of<'a, C: WorkCells>(
+pub fn amount_of<'a, C: WorkCells>(
     alloc: Global,
     term: &'a Term,
     sight: &Sight<'a>,
@@ -143,7 +116,31 @@ fn amount_of<'a, C: WorkCells>(
         Term::Number(number) => Ok(Ok(Value::Num(*number))),
         Term::Variable(place) => Ok(sight.amount(*place)),
         Term::Column(place) => Ok(sight.column_amount(*place)),
+        Term::Get(names) => value_in_cell(alloc, names.as_slice(), sight, cells),
+        Term::Amount(fun, inner) => {
+            Ok(function(*fun, amount_of(alloc, inner.get(), sight, cells)?))
+        }
+        Term::Amounts(op, left, right) => operated(alloc, *op, left, right, sight, cells),
         _ => Ok(as_amount(value_of(alloc, term, sight, cells)?)),
+    }
+}
+
+/// What a condition gives. A comparison of numbers isn't made a datum first.
+#[cycle(values)]
+pub fn truth_of<'a, C: WorkCells>(
+    alloc: Global,
+    term: &'a Term,
+    sight: &Sight<'a>,
+    cells: &mut C,
+) -> Result<Result<bool, LoadReason>, AllocError>
+    ensures value { IfOk result (λ answer. answer
+        ≡ values.truth (value_of term.now sight.now (C.store cells.old) (C.writes cells.old))) }
+    ensures store { C.store cells.new ≡ C.store cells.old }
+    ensures writes { C.writes cells.new ≡ C.writes cells.old }
+{
+    match term {
+        Term::Compare(rel, left, right) => compared(alloc, *rel, left, right, sight, cells),
+        _ => Ok(as_truth(value_of(alloc, term, sight, cells)?)),
     }
 }
 
@@ -174,19 +171,22 @@ fn text_at<'a, C: WorkCells>(
 fn operated<'a, C: WorkCells>(
     alloc: Global,
     op: Op,
-    left: &'a Term,
-    right: &'a Term,
+    left: &'a Boxed<Term>,
+    right: &'a Boxed<Term>,
     sight: &Sight<'a>,
     cells: &mut C,
-) -> Result<Result<Datum<'a>, LoadReason>, AllocError>
-    ensures value { IfOk result (λ answer. answer
+) -> Result<Result<Value, LoadReason>, AllocError>
+    ensures value { IfOk result (λ answer. answer ≡ amount
+        (operated op (value_of left.now sight.now (C.store cells.old) (C.writes cells.old))
+        (value_of right.now sight.now (C.store cells.old) (C.writes cells.old)))) }
+    ensures datum { IfOk result (λ answer. done (λ number. data_of.Number number) answer
         ≡ operated op (value_of left.now sight.now (C.store cells.old) (C.writes cells.old))
         (value_of right.now sight.now (C.store cells.old) (C.writes cells.old))) }
     ensures store { C.store cells.new ≡ C.store cells.old }
     ensures writes { C.writes cells.new ≡ C.writes cells.old }
 {
-    let left = amount_of(alloc, left, sight, cells)?;
-    let right = amount_of(alloc, right, sight, cells)?;
+    let left = amount_of(alloc, left.get(), sight, cells)?;
+    let right = amount_of(alloc, right.get(), sight, cells)?;
     Ok(operation(op, left, right))
 }
 
@@ -196,19 +196,22 @@ fn operated<'a, C: WorkCells>(
 fn compared<'a, C: WorkCells>(
     alloc: Global,
     rel: Rel,
-    left: &'a Term,
-    right: &'a Term,
+    left: &'a Boxed<Term>,
+    right: &'a Boxed<Term>,
     sight: &Sight<'a>,
     cells: &mut C,
-) -> Result<Result<Datum<'a>, LoadReason>, AllocError>
-    ensures value { IfOk result (λ answer. answer
+) -> Result<Result<bool, LoadReason>, AllocError>
+    ensures value { IfOk result (λ answer. answer ≡ values.truth
+        (compared rel (value_of left.now sight.now (C.store cells.old) (C.writes cells.old))
+        (value_of right.now sight.now (C.store cells.old) (C.writes cells.old)))) }
+    ensures datum { IfOk result (λ answer. done (λ holds. data_of.Truth holds) answer
         ≡ compared rel (value_of left.now sight.now (C.store cells.old) (C.writes cells.old))
         (value_of right.now sight.now (C.store cells.old) (C.writes cells.old))) }
     ensures store { C.store cells.new ≡ C.store cells.old }
     ensures writes { C.writes cells.new ≡ C.writes cells.old }
 {
-    let left = amount_of(alloc, left, sight, cells)?;
-    let right = amount_of(alloc, right, sight, cells)?;
+    let left = amount_of(alloc, left.get(), sight, cells)?;
+    let right = amount_of(alloc, right.get(), sight, cells)?;
     Ok(comparison(rel, left, right))
 }
 
@@ -218,9 +221,9 @@ fn compared<'a, C: WorkCells>(
 #[tactic(auto, unfolding(crate::specs::Values::cut))]
 fn cut_at<'a, C: WorkCells>(
     alloc: Global,
-    inner: &'a Term,
-    start: &'a Term,
-    count: &'a Term,
+    inner: &'a Boxed<Term>,
+    start: &'a Boxed<Term>,
+    count: &'a Boxed<Term>,
     sight: &Sight<'a>,
     cells: &mut C,
 ) -> Result<Result<Datum<'a>, LoadReason>, AllocError>
@@ -231,9 +234,9 @@ fn cut_at<'a, C: WorkCells>(
     ensures store { C.store cells.new ≡ C.store cells.old }
     ensures writes { C.writes cells.new ≡ C.writes cells.old }
 {
-    let text = text_at(alloc, inner, sight, cells)?;
-    let start = amount_of(alloc, start, sight, cells)?;
-    let count = amount_of(alloc, count, sight, cells)?;
+    let text = text_at(alloc, inner.get(), sight, cells)?;
+    let start = amount_of(alloc, start.get(), sight, cells)?;
+    let count = amount_of(alloc, count.get(), sight, cells)?;
     cut(alloc, text, start, count)
 }
 
@@ -243,9 +246,9 @@ fn cut_at<'a, C: WorkCells>(
 #[tactic(auto, unfolding(crate::specs::Values::written))]
 fn written_at<'a, C: WorkCells>(
     alloc: Global,
-    inner: &'a Term,
-    width: &'a Term,
-    decimals: &'a Term,
+    inner: &'a Boxed<Term>,
+    width: &'a Boxed<Term>,
+    decimals: &'a Boxed<Term>,
     sight: &Sight<'a>,
     cells: &mut C,
 ) -> Result<Result<Datum<'a>, LoadReason>, AllocError>
@@ -256,30 +259,51 @@ fn written_at<'a, C: WorkCells>(
     ensures store { C.store cells.new ≡ C.store cells.old }
     ensures writes { C.writes cells.new ≡ C.writes cells.old }
 {
-    let value = amount_of(alloc, inner, sight, cells)?;
-    let width = amount_of(alloc, width, sight, cells)?;
-    let decimals = amount_of(alloc, decimals, sight, cells)?;
+    let value = amount_of(alloc, inner.get(), sight, cells)?;
+    let width = amount_of(alloc, width.get(), sight, cells)?;
+    let decimals = amount_of(alloc, decimals.get(), sight, cells)?;
     written(alloc, value, width, decimals)
 }
 
-/// What two expressions give, the left one first. The right one is evaluated whatever the left one gives.
+/// What two expressions give as texts, the left one first. The right one is evaluated whatever the left one gives.
 #[cycle(values)]
-fn two_values<'a, C: WorkCells>(
+fn two_texts<'a, C: WorkCells>(
     alloc: Global,
-    left: &'a Term,
-    right: &'a Term,
+    left: &'a Boxed<Term>,
+    right: &'a Boxed<Term>,
     sight: &Sight<'a>,
     cells: &mut C,
-) -> Result<(Result<Datum<'a>, LoadReason>, Result<Datum<'a>, LoadReason>), AllocError>
+) -> Result<(Result<Text<'a>, LoadReason>, Result<Text<'a>, LoadReason>), AllocError>
     ensures left { IfOk result (λ both. both.0
-        ≡ value_of left.now sight.now (C.store cells.old) (C.writes cells.old)) }
+        ≡ values.text (value_of left.now sight.now (C.store cells.old) (C.writes cells.old))) }
     ensures right { IfOk result (λ both. both.1
-        ≡ value_of right.now sight.now (C.store cells.old) (C.writes cells.old)) }
+        ≡ values.text (value_of right.now sight.now (C.store cells.old) (C.writes cells.old))) }
     ensures store { C.store cells.new ≡ C.store cells.old }
     ensures writes { C.writes cells.new ≡ C.writes cells.old }
 {
-    let left = value_of(alloc, left, sight, cells)?;
-    let right = value_of(alloc, right, sight, cells)?;
+    let left = text_at(alloc, left.get(), sight, cells)?;
+    let right = text_at(alloc, right.get(), sight, cells)?;
+    Ok((left, right))
+}
+
+/// What two expressions give as truths, the left one first. The right one is evaluated whatever the left one gives.
+#[cycle(values)]
+fn two_truths<'a, C: WorkCells>(
+    alloc: Global,
+    left: &'a Boxed<Term>,
+    right: &'a Boxed<Term>,
+    sight: &Sight<'a>,
+    cells: &mut C,
+) -> Result<(Result<bool, LoadReason>, Result<bool, LoadReason>), AllocError>
+    ensures left { IfOk result (λ both. both.0
+        ≡ values.truth (value_of left.now sight.now (C.store cells.old) (C.writes cells.old))) }
+    ensures right { IfOk result (λ both. both.1
+        ≡ values.truth (value_of right.now sight.now (C.store cells.old) (C.writes cells.old))) }
+    ensures store { C.store cells.new ≡ C.store cells.old }
+    ensures writes { C.writes cells.new ≡ C.writes cells.old }
+{
+    let left = truth_of(alloc, left.get(), sight, cells)?;
+    let right = truth_of(alloc, right.get(), sight, cells)?;
     Ok((left, right))
 }
 
@@ -290,16 +314,18 @@ fn value_in_cell<'a, C: WorkCells>(
     names: &'a [Term],
     sight: &Sight<'a>,
     cells: &mut C,
-) -> Result<Result<Datum<'a>, LoadReason>, AllocError>
-    ensures value { IfOk result (λ answer. answer ≡ done (λ value. data_of.Number value)
+) -> Result<Result<Value, LoadReason>, AllocError>
+    ensures value { IfOk result (λ answer. answer ≡ amount (done (λ number. data_of.Number number)
         (taken (cell_value (C.store cells.old) (C.writes cells.old))
-        (each_text (map value_of names.now) sight.now (C.store cells.old) (C.writes cells.old)))) }
+        (each_text (map value_of names.now) sight.now (C.store cells.old) (C.writes cells.old))))) }
+    ensures datum { IfOk result (λ answer. answer ≡ taken (cell_value (C.store cells.old) (C.writes cells.old))
+        (each_text (map value_of names.now) sight.now (C.store cells.old) (C.writes cells.old))) }
     ensures store { C.store cells.new ≡ C.store cells.old }
     ensures writes { C.writes cells.new ≡ C.writes cells.old }
 {
     match texts_of(alloc, names, sight, cells)? {
         Ok(names) => match cell_value(alloc, names.as_slice(), cells)? {
-            Ok(value) => Ok(Ok(Datum::Number(value))),
+            Ok(value) => Ok(Ok(value)),
             Err(reason) => Ok(Err(reason)),
         },
         Err(reason) => Ok(Err(reason)),
@@ -312,8 +338,8 @@ fn value_in_cell<'a, C: WorkCells>(
 #[tactic(auto, unfolding(crate::specs::Values::element_name))]
 fn element_name<'a, C: WorkCells>(
     alloc: Global,
-    dimension: &'a Term,
-    place: &'a Term,
+    dimension: &'a Boxed<Term>,
+    place: &'a Boxed<Term>,
     sight: &Sight<'a>,
     cells: &mut C,
 ) -> Result<Result<Datum<'a>, LoadReason>, AllocError>
@@ -323,8 +349,8 @@ fn element_name<'a, C: WorkCells>(
     ensures store { C.store cells.new ≡ C.store cells.old }
     ensures writes { C.writes cells.new ≡ C.writes cells.old }
 {
-    let dimension = text_at(alloc, dimension, sight, cells)?;
-    let place = amount_of(alloc, place, sight, cells)?;
+    let dimension = text_at(alloc, dimension.get(), sight, cells)?;
+    let place = amount_of(alloc, place.get(), sight, cells)?;
     named_at(alloc, dimension, place, cells)
 }
 

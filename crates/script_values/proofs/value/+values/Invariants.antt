@@ -15,8 +15,11 @@ invariant-texts_of-each g l =
 abbrev pub decreases-value_of : goal.decreases-value_of
 decreases-value_of g l = 4 * goal.size-value_of g l
 
-abbrev pub decreases-two_values : goal.decreases-two_values
-decreases-two_values g l = 4 * max (the_size l.left.now) (the_size l.right.now) + 1
+abbrev pub decreases-two_texts : goal.decreases-two_texts
+decreases-two_texts g l = 4 * max (the_size l.left.now) (the_size l.right.now) + 2
+
+abbrev pub decreases-two_truths : goal.decreases-two_truths
+decreases-two_truths g l = 4 * max (the_size l.left.now) (the_size l.right.now) + 2
 
 abbrev pub decreases-texts_of : goal.decreases-texts_of
 decreases-texts_of g l = 4 * goal.size-texts_of g l + 2
@@ -26,6 +29,9 @@ decreases-value_in_cell g l = 4 * goal.size-value_in_cell g l + 3
 
 abbrev pub decreases-amount_of : goal.decreases-amount_of
 decreases-amount_of g l = 4 * goal.size-amount_of g l + 1
+
+abbrev pub decreases-truth_of : goal.decreases-truth_of
+decreases-truth_of g l = 4 * goal.size-truth_of g l + 1
 
 abbrev pub decreases-text_at : goal.decreases-text_at
 decreases-text_at g l = 4 * goal.size-text_at g l + 1
