@@ -1,6 +1,7 @@
 ghost use Rattle.std.specs.Prelude.{◌≡◌, ◌≤◌, List, map, IfOk, Ok};
 ghost use Rattle.script_values.specs.Cells.{refusal, writes_after};
 ghost use Rattle.script_values.specs.Values as values;
+ghost use Rattle.script_values.specs.declared.kept.Kept.TheVariants as kept;
 ghost use Rattle.script_run.specs.Meaning as meaning;
 ghost use Rattle.script_run.specs.Meaning.{Ended, given};
 ghost use Rattle.script_run.specs.Inside.Executions.{changed};
@@ -12,7 +13,7 @@ use cube_fixed::{Value, add};
 use lists::ListOf;
 use script_bound::Term;
 use script_values::{
-    Datum, Kept, LoadReason, Sight, Text, WorkCells, as_amount, as_truth, cell_value, texts_of,
+    Datum, Kept, LoadReason, Sight, Text, WorkCells, amount_of, cell_value, texts_of, truth_of,
     value_of,
 };
 use std::alloc::{AllocError, Global};
@@ -43,7 +44,15 @@ fn kept(
     }
 }
 
-/// What a variable holds after an expression is assigned to it.
+/// What a variable holds after a number is assigned to it.
+fn kept_number(given: Result<Value, LoadReason>) -> Result<Kept, LoadReason>
+    ensures { result ≡ values.done kept.Number given }
+{
+    Ok(Kept::Number(given?))
+}
+
+/// What a variable holds after an expression is assigned to it. What an operation gives isn't made a datum first.
+#[tactic(auto, using(crate::proofs::NumbersKept::operated_kept))]
 fn kept_of<C: WorkCells>(
     alloc: Global,
     term: &Term,
@@ -57,8 +66,13 @@ fn kept_of<C: WorkCells>(
     ensures writes { C.writes cells.new ≡ C.writes cells.old }
 {
     let sight = run.sight(here);
-    let datum = value_of(alloc, term, &sight, cells)?;
-    kept(alloc, datum)
+    match term {
+        Term::Amounts(..) => Ok(kept_number(amount_of(alloc, term, &sight, cells)?)),
+        _ => {
+            let datum = value_of(alloc, term, &sight, cells)?;
+            kept(alloc, datum)
+        }
+    }
 }
 
 /// Whether a condition holds.
@@ -75,8 +89,7 @@ pub(crate) fn holds<C: WorkCells>(
     ensures writes { C.writes cells.new ≡ C.writes cells.old }
 {
     let sight = run.sight(here);
-    let datum = value_of(alloc, test, &sight, cells)?;
-    Ok(as_truth(datum))
+    truth_of(alloc, test, &sight, cells)
 }
 
 /// Runs an assignment.
@@ -127,9 +140,9 @@ fn arguments<'a, C: WorkCells>(
     ensures store { C.store cells.new ≡ C.store cells.old }
     ensures writes { C.writes cells.new ≡ C.writes cells.old }
 {
-    let value = value_of(alloc, value, sight, cells)?;
+    let value = amount_of(alloc, value, sight, cells)?;
     let names = texts_of(alloc, names, sight, cells)?;
-    Ok(both(as_amount(value), names))
+    Ok(both(value, names))
 }
 
 /// Writes a value into the cell of these names, if that isn't refused.

@@ -1,0 +1,23 @@
+-- What an operation gives is a number, which a variable keeps.
+use Rattle.std.proofs.Common.{◌≡◌, refl, Result, Ok, Err}
+use Rattle.cube_fixed.specs.declared.value.Value.{Value}
+use Rattle.rule_laws.specs.Operation.{operation_of}
+use Rattle.rule_laws.specs.declared.operation.Op.{Op}
+use Rattle.script_values.specs.Values.{taken, done, amount, operated, one_and_other}
+use Rattle.script_values.specs.declared.datum.Datum.{Datum}
+use Rattle.script_values.specs.declared.datum.Datum.TheVariants as data_of
+use Rattle.script_values.specs.declared.kept.Kept.TheVariants as kept
+use Rattle.script_values.specs.declared.load_reason.LoadReason.{LoadReason}
+use Rattle.script_run.specs.Meaning.{as_kept}
+
+pub operated_kept : (op : Op) (x y : Result Datum LoadReason) → taken as_kept (operated op x y) ≡ done kept.Number (amount (operated op x y))
+unfolding operated
+operated_kept op x y = by (amount x) (amount y)
+  where
+    make : Value → Value → Datum
+    make left right = data_of.Number (operation_of op left right)
+
+    by : (a b : Result Value LoadReason) → taken as_kept (one_and_other make a b) ≡ done kept.Number (amount (one_and_other make a b))
+    by (Ok a) (Ok b) = refl
+    by (Ok a) (Err reason) = refl
+    by (Err reason) b = refl
