@@ -1,7 +1,8 @@
-ghost use Rattle.std.specs.Prelude.{◌≡◌, ◌≤◌, length};
+ghost use Rattle.std.specs.Prelude.{◌≡◌, MatchOption, Ok, Err};
 ghost use Rattle.cube_lex.specs.Lexeme.{lexeme_of};
 ghost use Rattle.std.specs.Option.{option_map};
-ghost use Rattle.rule_tree.specs.Counting.{start};
+ghost use Rattle.rule_tree.specs.Counting.{count, start};
+ghost use Rattle.rule_tree.specs.declared.excess.Excess.{Excess};
 ghost use Rattle.explanation.specs.Begins as begins;
 
 use cube_lex::{Token, TokensLeft, text_tokens};
@@ -32,6 +33,18 @@ fn uncounted() -> Counted
     }
 }
 
+// The count with one more token, or None where the token is one too many.
+fn counted_with(counted: Counted, token: &Token<'_>) -> Option<Counted>
+    ensures { MatchOption result ((excess : Excess) × (count counted (lexeme_of token.now) ≡ Err excess))
+        (λ more. count counted (lexeme_of token.now) ≡ Ok more) }
+{
+    let mut more = counted;
+    match more.scan(token) {
+        Ok(()) => Some(more),
+        Err(_) => None,
+    }
+}
+
 // The first of these tokens with which that statement or feeder is counted.
 fn first_token<'a>(place: FilePlace, tokens: TokensLeft<'a>) -> Option<Token<'a>>
     ensures { option_map lexeme_of result ≡ begins.first_token place start tokens.entry }
@@ -39,12 +52,13 @@ fn first_token<'a>(place: FilePlace, tokens: TokensLeft<'a>) -> Option<Token<'a>
     let mut counted = uncounted();
     let mut left = tokens;
     'token: while let Some(token) = left.first() {
-        if counted.scan(&token).is_err() {
+        let Some(more) = counted_with(counted, &token) else {
             return None;
-        }
-        if is_counted(place, &counted) {
+        };
+        if is_counted(place, &more) {
             return Some(token);
         }
+        counted = more;
         left.advance();
     }
     None
@@ -52,8 +66,7 @@ fn first_token<'a>(place: FilePlace, tokens: TokensLeft<'a>) -> Option<Token<'a>
 
 /// The offset of the token with which that statement or feeder of a rule text begins, or 0 where there is none.
 pub(crate) fn begin_of(text: &[u8], place: FilePlace) -> usize
-    ensures begin { begins.IsBegin text.now place result }
-    ensures within { result ≤ length text.now }
+    ensures { begins.IsBegin text.now place result }
 {
     match first_token(place, text_tokens(text).left) {
         Some(token) => token.start,

@@ -1,4 +1,4 @@
-ghost use Rattle.std.specs.Prelude.{◌≡◌, ◌≤◌, ◌++◌, length, IfOk, OnOk};
+ghost use Rattle.std.specs.Prelude.{◌≡◌, ◌++◌, IfOk, OnOk};
 ghost use Rattle.explanation.specs.Explanation.{IsShownAt, IsExplanation, at_line, text_line};
 
 use crate::begins::begin_of;
@@ -8,8 +8,7 @@ use std::alloc::{AllocError, Global};
 
 // The offset in a text at which a place is shown.
 fn shown_at(text: &[u8], place: FilePlace) -> usize
-    ensures shown { IsShownAt text.now place result }
-    ensures within { result ≤ length text.now }
+    ensures { IsShownAt text.now place result }
 {
     match place {
         FilePlace::Line(line) => line_begin(text, line),
@@ -26,7 +25,6 @@ fn push_at(
     text: &[u8],
     at: usize,
 ) -> Result<(), AllocError>
-    requires { at ≤ length text.now }
     ensures { OnOk result (out.new.items ≡ out.old.items ++ at_line file.now text.now at) }
 {
     let line = line_at(text, at);
@@ -38,7 +36,6 @@ fn push_at(
 
 // The line of the text.
 fn push_text(out: &mut Vec<u8>, text: &[u8], at: usize) -> Result<(), AllocError>
-    requires { at ≤ length text.now }
     ensures { OnOk result (out.new.items ≡ out.old.items ++ text_line text.now at) }
 {
     out.extend_from_slice(b"  | ")?;

@@ -1,10 +1,10 @@
-ghost use Rattle.std.specs.Prelude.{◌≡◌, ◌≤◌, ◌+◌, length, take_while, count_by};
+ghost use Rattle.std.specs.Prelude.{◌≡◌, ◌≤◌, ◌+◌, length, take, drop, take_while, count_by};
 ghost use Rattle.cube_lex.specs.Bytes.{is_line_end, line_at};
 ghost use Rattle.cube_lex.specs.Reading.{mark_len};
 ghost use Rattle.explanation.specs.Places as places;
 
 /// How many bytes of a line are shown.
-const MOST_SHOWN: usize = 200;
+const MAX_SHOWN: usize = 200;
 
 const MARK: [u8; 3] = [0xEF, 0xBB, 0xBF];
 
@@ -13,6 +13,24 @@ fn mark_len(text: &[u8]) -> usize
     ensures { result ≡ mark_len text.now }
 {
     if text.starts_with(&MARK) { 3 } else { 0 }
+}
+
+// The bytes up to an offset.
+#[tactic(auto, using(std::proofs::lemmas::List::take_min))]
+fn up_to(bytes: &[u8], at: usize) -> &[u8]
+    ensures { result.now ≡ take at bytes.now }
+{
+    let (front, _) = bytes.split_at(at.min(bytes.len()));
+    front
+}
+
+// The bytes from an offset on.
+#[tactic(auto, using(std::proofs::lemmas::List::drop_min))]
+fn from(bytes: &[u8], at: usize) -> &[u8]
+    ensures { result.now ≡ drop at bytes.now }
+{
+    let (_, back) = bytes.split_at(at.min(bytes.len()));
+    back
 }
 
 // The column behind these bytes of a text.
@@ -29,21 +47,16 @@ fn column_behind(bytes: &[u8]) -> usize
 
 /// The column of the byte at an offset, from 1.
 pub(crate) fn column_at(text: &[u8], at: usize) -> usize
-    requires { at ≤ length text.now }
     ensures { result ≡ places.column_at text.now at }
 {
-    let (front, _) = text.split_at(at);
-    let (_, behind_mark) = front.split_at(mark_len(text).min(front.len()));
-    column_behind(behind_mark)
+    column_behind(from(up_to(text, at), mark_len(text)))
 }
 
 /// The line of the byte at an offset, from 1.
 pub(crate) fn line_at(text: &[u8], at: usize) -> usize
-    requires { at ≤ length text.now }
     ensures { result ≡ line_at text.now at }
 {
-    let (front, _) = text.split_at(at);
-    1 + line_ends(front)
+    1 + line_ends(up_to(text, at))
 }
 
 // How many lines end among the bytes.
@@ -56,7 +69,8 @@ fn line_ends(bytes: &[u8]) -> usize
 
 // How many bytes from the first on are shown of a line.
 fn shown_len(bytes: &[u8]) -> usize
-    ensures { result ≡ length (take_while places.is_shown bytes.now) }
+    ensures len { result ≡ length (take_while places.is_shown bytes.now) }
+    ensures few { result ≤ length bytes.now }
 {
     bytes
         .iter()
@@ -64,14 +78,20 @@ fn shown_len(bytes: &[u8]) -> usize
         .count()
 }
 
+// The bytes up to the end of their line.
+fn up_to_end(bytes: &[u8]) -> &[u8]
+    ensures { result.now ≡ take_while places.is_shown bytes.now }
+{
+    let (shown, _) = bytes.split_at(shown_len(bytes));
+    shown
+}
+
 /// The line of the byte at an offset, as it is shown.
 pub(crate) fn shown_line(text: &[u8], at: usize) -> &[u8]
-    requires { at ≤ length text.now }
     ensures { result.now ≡ places.shown_line text.now at }
 {
-    let (_, line) = text.split_at(at.saturating_sub(column_at(text, at) - 1));
-    let (shown, _) = line.split_at(shown_len(line).min(MOST_SHOWN));
-    shown
+    let begin = at.saturating_sub(column_at(text, at).saturating_sub(1));
+    up_to(up_to_end(from(text, begin)), MAX_SHOWN)
 }
 
 // What is left behind so many line ends.
@@ -106,10 +126,8 @@ fn blanks(bytes: &[u8]) -> usize
 
 /// The offset of the first byte of a line that is no blank. Lines count from 1.
 pub(crate) fn line_begin(text: &[u8], line: u32) -> usize
-    ensures begin { result ≡ places.line_begin text.now line }
-    ensures within { result ≤ length text.now }
+    ensures { result ≡ places.line_begin text.now line }
 {
-    let (_, behind_mark) = text.split_at(mark_len(text).min(text.len()));
-    let rest = behind_lines(line.saturating_sub(1) as usize, behind_mark);
+    let rest = behind_lines(line.saturating_sub(1) as usize, from(text, mark_len(text)));
     text.len() - rest.len() + blanks(rest)
 }

@@ -1,0 +1,19 @@
+use Rattle.std.proofs.Common.{◌≡◌, ◌∙◌, sym, true}
+use Rattle.cube_lex.specs.Lexeme.{lexeme_of}
+use Rattle.explanation.specs.Begins.{is_counted}
+use Rattle.explanation.proofs.FirstTokens.{none_left, past, found}
+use Rattle.explanation.proofs.begins.first_token.Goals as goal
+
+pub returns-in_default-counted_with : goal.returns-in_default-counted_with
+returns-in_default-counted_with c =
+    sym (past c.args.place c.token.counted c.token.left (lexeme_of c.in-Some.token) (sym c.in-Some.ensures) c.in_default-counted_with.ensures)
+    ∙ c.token.invariant
+
+pub returns-then-is_counted : goal.returns-then-is_counted
+returns-then-is_counted c =
+    let last : is_counted c.args.place c.in-Some-counted_with.more ≡ true = sym c.is_counted.ensures ∙ c.if-is_counted.true in
+    sym (found c.args.place c.token.counted c.in-Some-counted_with.more c.token.left (lexeme_of c.in-Some.token) (sym c.in-Some.ensures) c.in-Some-counted_with.ensures last)
+    ∙ c.token.invariant
+
+pub returns : goal.returns
+returns c = sym (none_left c.args.place c.token.counted c.token.left (sym c.in_default.ensures)) ∙ c.token.invariant
