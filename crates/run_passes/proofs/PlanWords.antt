@@ -1,5 +1,5 @@
 -- Words ask for one plan at most.
-use Rattle.std.proofs.Common.{◌≡◌, ℕ, List, [], ◌∷◌, ◌++◌, Bool, true, false, ◌&&◌, IsTrue, codes, inl, inr, sym, ◌∙◌, ap, subst, ap₂}
+use Rattle.std.proofs.Common.{◌≡◌, ℕ, List, [], ◌∷◌, ◌++◌, Bool, true, false, ◌&&◌, IsTrue, codes, inl, inr, sym, ◌∙◌, ap, subst, ap₂, arith, slice_index_or}
 use Rattle.std.proofs.lemmas.List.{append_cancel_left}
 use Rattle.std.specs.List.{list_all}
 use Rattle.std.specs.Str.Parse.{digits_value}
@@ -21,6 +21,13 @@ never-both false is = cc
 
 no-flag : (name flag : List ℕ) → name ≡ 45 ∷ flag → IsTrue (names_a_file name) → ⊥
 no-flag name flag same is = (let never : IsTrue (names_a_file (45 ∷ flag)) = subst (λ n. IsTrue (names_a_file n)) same is in cc)
+
+-- the flags differ in their third letter
+no-explain-check : codes "--explain" ≡ 45 ∷ codes "-check" → ⊥
+no-explain-check same = (let letters : 101 ≡ 99 = ap (λ l. slice_index_or l 2 0) same in omega (arith, letters))
+
+no-explain-feeders : codes "--explain" ≡ 45 ∷ codes "-feeders" → ⊥
+no-explain-feeders same = (let letters : 101 ≡ 102 = ap (λ l. slice_index_or l 2 0) same in omega (arith, letters))
 
 module _ (words : List (List ℕ)) (files : IsTrue (list_all names_a_file words)) where
   no-first : (flag : List ℕ) (more : List (List ℕ)) → words ≡ (45 ∷ flag) ∷ more → ⊥
@@ -170,17 +177,17 @@ module _ (words : List (List ℕ)) where
   one_plan (Run model users) (Sample size) p q = absurd (no-sample words p.files size q)
   one_plan (Check model) (Run other users) p q = absurd (no-flagged words q.files (codes "-check") model p)
   one_plan (Check model) (Check other) p q = ap Check (one-model (codes "-check") model other p q)
-  one_plan (Check model) (Explain other users) p q = absurd (no-explain-flagged (codes "-check") other model users q p (λ same. cc))
+  one_plan (Check model) (Explain other users) p q = absurd (no-explain-flagged (codes "-check") other model users q p no-explain-check)
   one_plan (Check model) (Feeders other) p q = absurd (no-two-flags model other p q)
   one_plan (Check model) (Sample size) p q = absurd (no-check-sample model size p q)
   one_plan (Explain model users) (Run other more) p q = absurd (no-explain words q.files model users p)
-  one_plan (Explain model users) (Check other) p q = absurd (no-explain-flagged (codes "-check") model other users p q (λ same. cc))
+  one_plan (Explain model users) (Check other) p q = absurd (no-explain-flagged (codes "-check") model other users p q no-explain-check)
   one_plan (Explain model users) (Explain other more) p q = (let same = one-explained model other users more p q in cc)
-  one_plan (Explain model users) (Feeders other) p q = absurd (no-explain-flagged (codes "-feeders") model other users p q (λ same. cc))
+  one_plan (Explain model users) (Feeders other) p q = absurd (no-explain-flagged (codes "-feeders") model other users p q no-explain-feeders)
   one_plan (Explain model users) (Sample size) p q = absurd (no-explain-sample model users size p q)
   one_plan (Feeders model) (Run other users) p q = absurd (no-flagged words q.files (codes "-feeders") model p)
   one_plan (Feeders model) (Check other) p q = absurd (no-two-flags other model q p)
-  one_plan (Feeders model) (Explain other users) p q = absurd (no-explain-flagged (codes "-feeders") other model users q p (λ same. cc))
+  one_plan (Feeders model) (Explain other users) p q = absurd (no-explain-flagged (codes "-feeders") other model users q p no-explain-feeders)
   one_plan (Feeders model) (Feeders other) p q = ap Feeders (one-model (codes "-feeders") model other p q)
   one_plan (Feeders model) (Sample size) p q = absurd (no-feeders-sample model size p q)
   one_plan (Sample size) (Run other users) p q = absurd (no-sample words q.files size p)

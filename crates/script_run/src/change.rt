@@ -52,7 +52,6 @@ fn kept_number(given: Result<Value, LoadReason>) -> Result<Kept, LoadReason>
 }
 
 /// What a variable holds after an expression is assigned to it. What an operation gives isn't made a datum first.
-#[tactic(auto, using(crate::proofs::NumbersKept::operated_kept))]
 fn kept_of<C: WorkCells>(
     alloc: Global,
     term: &Term,
