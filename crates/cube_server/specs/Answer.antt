@@ -89,7 +89,7 @@ abbrev pub IsRefusalText : List (List ℕ) → Readings → Refusal → List ℕ
 IsRefusalText words readings refusal text =
     ((¬ AskToExplain words) × (text ≡ refused_text refusal))
     ⊎ (AskToExplain words
-        × ((lines : List ℕ) × IsExplanation readings refusal lines × (text ≡ refused_text refusal ++ lines)))
+    × ((lines : List ℕ) × IsExplanation readings refusal lines × (text ≡ refused_text refusal ++ lines)))
 
 -- after the files that were read the run refuses one of them
 pub record IsRefused (words : List (List ℕ)) (o : Outside) (text : List ℕ) : Type 0 where

@@ -85,11 +85,7 @@ fn accepted(alloc: Global, model: &Accepted) -> Result<Answer, AllocError>
     ensures text { IfOk result (λ answer. IsAccepted model.now
         × (joined answer.pieces.items ≡ accepted_text model.now)) }
 {
-    one_piece(
-        alloc,
-        Status::Done,
-        accepted_text(alloc, model.model())?,
-    )
+    one_piece(alloc, Status::Done, accepted_text(alloc, model.model())?)
 }
 
 // Runs the users.
