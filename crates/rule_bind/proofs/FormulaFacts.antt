@@ -73,47 +73,17 @@ module _ (space : Layout) (cube : ℕ) (sets : Sets) where
       let parts = ap (λ g. call_value space cube at g (map (meant space cube sets) arguments)) (function ∙ ap function_of same_word) in
       rw (whole, sym parts, sym same) h
 
-  operation_is : (at : Standing) (tree left right l r : Tree) (sign : TreeOp) (o : Operator) (op : Op) → tree ≡ trees.Binary sign left right → o ≡ operator_of sign → o ≡ operators.Operation op → l ≡ left → r ≡ right
-      → value_of space cube sets at tree ≡ binary op (meant space cube sets l) (meant space cube sets r)
-  operation_is at tree left right l r sign o op is told known same_left same_right =
-      ap (λ m. m.value at) (ap (meanings space cube sets) is ∙ means_binary sign left right)
-      ∙ ap (λ x. operator_value x (meant space cube sets left) (meant space cube sets right)) (sym told ∙ known)
-      ∙ ap (λ t. binary op (meant space cube sets t) (meant space cube sets right)) (sym same_left)
-      ∙ ap (λ t. binary op (meant space cube sets l) (meant space cube sets t)) (sym same_right)
+  -- an operator between two formulas, the same way: as a value and as a truth
+  pub operation_is : (at : Standing) (tree left right l r : Tree) (sign : TreeOp) (o : Operator) (answer : Result Formula BindCause) → tree ≡ trees.Binary sign left right → o ≡ operator_of sign → l ≡ left → r ≡ right
+      → Answers (operator_value o (meant space cube sets l) (meant space cube sets r)) answer → Answers (value_of space cube sets at tree) answer
+  operation_is at tree left right l r sign o answer is told same_left same_right h =
+      let whole = ap (λ m. m.value at) (ap (meanings space cube sets) is ∙ means_binary sign left right) in
+      rw (whole, sym told, sym same_left, sym same_right) h
 
-  pub left_fails : (at : Standing) (tree left right l : Tree) (sign : TreeOp) (o : Operator) (op : Op) (cause : BindCause) → tree ≡ trees.Binary sign left right → o ≡ operator_of sign → o ≡ operators.Operation op → l ≡ left
-      → Answers (value_of space cube sets Within l) (Err cause) → Answers (value_of space cube sets at tree) (Err cause)
-  left_fails at tree left right l sign o op cause is told known same h =
-      rw (operation_is at tree left right l right sign o op is told known same refl)
-      (stops (value_of space cube sets Within l) (λ a. value_of space cube sets Within right >>= (λ b. Ok (formulas.Binary op a b))) cause h)
-
-  pub right_fails : (at : Standing) (tree left right l r : Tree) (sign : TreeOp) (o : Operator) (op : Op) (a : Formula) (cause : BindCause) → tree ≡ trees.Binary sign left right → o ≡ operator_of sign → o ≡ operators.Operation op → l ≡ left → r ≡ right
-      → value_of space cube sets Within l ≡ Ok a → Answers (value_of space cube sets Within r) (Err cause) → Answers (value_of space cube sets at tree) (Err cause)
-  right_fails at tree left right l r sign o op a cause is told known same_left same_right first h =
-      rw (operation_is at tree left right l r sign o op is told known same_left same_right, first)
-      (stops (value_of space cube sets Within r) (λ b. Ok (formulas.Binary op a b)) cause h)
-
-  pub both_hold : (at : Standing) (tree left right l r : Tree) (sign : TreeOp) (o : Operator) (op : Op) (a b : Formula) (answer : Result Formula BindCause) → tree ≡ trees.Binary sign left right → o ≡ operator_of sign → o ≡ operators.Operation op → l ≡ left → r ≡ right
-      → value_of space cube sets Within l ≡ Ok a → value_of space cube sets Within r ≡ Ok b → Answers (Ok (formulas.Binary op a b)) answer → Answers (value_of space cube sets at tree) answer
-  both_hold at tree left right l r sign o op a b answer is told known same_left same_right first second h =
-      rw (operation_is at tree left right l r sign o op is told known same_left same_right, first, second) h
-
-  truth_is : (tree left right l r : Tree) (sign : TreeOp) (o known : Operator) → tree ≡ trees.Binary sign left right → o ≡ operator_of sign → o ≡ known → l ≡ left → r ≡ right
-      → truth_of space cube sets tree ≡ operator_truth space cube sets known (meant space cube sets l) (meant space cube sets r)
-  truth_is tree left right l r sign o known is told same same_left same_right =
-      ap (λ m. m.truth) (ap (meanings space cube sets) is ∙ means_binary sign left right)
-      ∙ ap (λ x. operator_truth space cube sets x (meant space cube sets left) (meant space cube sets right)) (sym told ∙ same)
-      ∙ ap (λ t. operator_truth space cube sets known (meant space cube sets t) (meant space cube sets right)) (sym same_left)
-      ∙ ap (λ t. operator_truth space cube sets known (meant space cube sets l) (meant space cube sets t)) (sym same_right)
-
-  pub and_fails : (tree left right l r : Tree) (sign : TreeOp) (o : Operator) (p : Truth) (cause : BindCause) → tree ≡ trees.Binary sign left right → o ≡ operator_of sign → o ≡ operators.And → l ≡ left → r ≡ right
-      → truth_of space cube sets l ≡ Ok p → Answers (truth_of space cube sets r) (Err cause) → Answers (truth_of space cube sets tree) (Err cause)
-  and_fails tree left right l r sign o p cause is told known same_left same_right first h =
-      rw (truth_is tree left right l r sign o operators.And is told known same_left same_right, first) (stops (truth_of space cube sets r) (λ q. Ok (truths.And p q)) cause h)
-
-  pub or_fails : (tree left right l r : Tree) (sign : TreeOp) (o : Operator) (p : Truth) (cause : BindCause) → tree ≡ trees.Binary sign left right → o ≡ operator_of sign → o ≡ operators.Or → l ≡ left → r ≡ right
-      → truth_of space cube sets l ≡ Ok p → Answers (truth_of space cube sets r) (Err cause) → Answers (truth_of space cube sets tree) (Err cause)
-  or_fails tree left right l r sign o p cause is told known same_left same_right first h =
-      rw (truth_is tree left right l r sign o operators.Or is told known same_left same_right, first) (stops (truth_of space cube sets r) (λ q. Ok (truths.Or p q)) cause h)
+  pub condition_is : (tree left right l r : Tree) (sign : TreeOp) (o : Operator) (answer : Result Truth BindCause) → tree ≡ trees.Binary sign left right → o ≡ operator_of sign → l ≡ left → r ≡ right
+      → Answers (operator_truth space cube sets o (meant space cube sets l) (meant space cube sets r)) answer → Answers (truth_of space cube sets tree) answer
+  condition_is tree left right l r sign o answer is told same_left same_right h =
+      let whole = ap (λ m. m.truth) (ap (meanings space cube sets) is ∙ means_binary sign left right) in
+      rw (whole, sym told, sym same_left, sym same_right) h
 
 pub ruleset means = (means_number, means_text, means_current, means_bracket, means_stet, means_continue, means_call, means_minus, means_not, means_binary, trees_again)

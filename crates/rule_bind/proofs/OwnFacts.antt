@@ -10,16 +10,21 @@ use Rattle.rule_laws.specs.declared.operation.Fun.TheVariants as funs
 use Rattle.rule_laws.specs.declared.operation.Rel.{Rel}
 use Rattle.rule_tree.specs.declared.tree.Tree.{Tree}
 use Rattle.bind_areas.specs.Meaning.{Meaning, ◌>>=◌}
-use Rattle.bind_arguments.specs.Numbers.{numbers_at}
+use Rattle.bind_arguments.specs.Numbers.{numbers_at, is_within_at}
 use Rattle.bind_arguments.specs.declared.element_function.ElementFunction.{ElementFunction}
 use Rattle.bind_arguments.specs.declared.element_function.ElementFunction.TheVariants as functions
-use Rattle.rule_bind.specs.OwnNumbers.{axis_named, own_place, element_at, attribute_at, table_at, under, plain_call, upper_call, component_call, attribute_call, own_call}
+use Rattle.rule_bind.specs.OwnNumbers.{axis_named, own_place, own_axis, plain_place, element_at, attribute_at, table_at, under, plain_call, upper_call, component_call, attribute_call, own_call}
 use Rattle.rule_bind.specs.Texts.{Side, side_of, shared_place, compared, texts_truth}
 use Rattle.rule_bind.specs.Sureness.{Sets, comparison}
 use Rattle.rule_bind.specs.DimensionSize.{size_named, counted, size_call}
 use Rattle.rule_bind.specs.declared.function.OwnFunction.{OwnFunction}
 use Rattle.rule_bind.specs.declared.function.OwnFunction.TheVariants as own
 use Rattle.rule_bind.proofs.Got.{got, answer}
+
+-- a function of an element that is of the dimension, both ways
+pub under_within : (space : Layout) (cube place above : ℕ) (deep : Bool) → is_within_at space cube place (functions.ComponentOf above) → is_within_at space cube place (under deep above)
+under_within space cube place above true within = within
+under_within space cube place above false within = within
 
 abbrev pub IsTable : Formula → Type 0
 IsTable f = (place : ℕ) × (table : List ℤ) × (f ≡ formulas.Table place table)
@@ -37,11 +42,9 @@ module _ (space : Layout) (cube : ℕ) where
       (place, numbers_at space cube place function, sym same)
 
   plain : (function : ElementFunction) (trees : List Tree) (f : Formula) → plain_call space cube function trees ≡ Ok f → IsTable f
-  plain function (dim ∷ of ∷ []) f is =
-      let (place, first, more) = got (axis_named space cube dim) (λ place. own_place space cube place of >>= (λ own. Ok (table_at space cube own function))) f is in
-      let (own, second, rest) = got (own_place space cube place of) (λ own. Ok (table_at space cube own function)) f more in
+  plain function trees f is =
+      let (own, first, rest) = got (plain_place space cube trees) (λ own. Ok (table_at space cube own function)) f is in
       made own function f rest
-  plain function _ f is = absurd (cc is)
 
   upper : (deep : Bool) (trees : List Tree) (f : Formula) → upper_call space cube deep trees ≡ Ok f → IsTable f
   upper deep (dim ∷ element ∷ of ∷ []) f is =
@@ -53,17 +56,15 @@ module _ (space : Layout) (cube : ℕ) where
 
   component : (trees : List Tree) (f : Formula) → component_call space cube trees ≡ Ok f → IsTable f
   component (dim ∷ of ∷ element ∷ []) f is =
-      let (place, first, many) = got (axis_named space cube dim) (λ place. own_place space cube place of >>= (λ own. element_at space cube own element >>= (λ above. Ok (table_at space cube own (functions.ComponentOf above))))) f is in
-      let (own, second, more) = got (own_place space cube place of) (λ own. element_at space cube own element >>= (λ above. Ok (table_at space cube own (functions.ComponentOf above)))) f many in
-      let (above, third, rest) = got (element_at space cube own element) (λ above. Ok (table_at space cube own (functions.ComponentOf above))) f more in
+      let (own, first, more) = got (own_axis space cube dim of) (λ own. element_at space cube own element >>= (λ above. Ok (table_at space cube own (functions.ComponentOf above)))) f is in
+      let (above, second, rest) = got (element_at space cube own element) (λ above. Ok (table_at space cube own (functions.ComponentOf above))) f more in
       made own (functions.ComponentOf above) f rest
   component _ f is = absurd (cc is)
 
   attribute : (trees : List Tree) (f : Formula) → attribute_call space cube trees ≡ Ok f → IsTable f
   attribute (dim ∷ of ∷ name ∷ []) f is =
-      let (place, first, many) = got (axis_named space cube dim) (λ place. own_place space cube place of >>= (λ own. attribute_at space cube own name >>= (λ found. Ok (table_at space cube own (functions.Attribute found))))) f is in
-      let (own, second, more) = got (own_place space cube place of) (λ own. attribute_at space cube own name >>= (λ found. Ok (table_at space cube own (functions.Attribute found)))) f many in
-      let (found, third, rest) = got (attribute_at space cube own name) (λ found. Ok (table_at space cube own (functions.Attribute found))) f more in
+      let (own, first, more) = got (own_axis space cube dim of) (λ own. attribute_at space cube own name >>= (λ found. Ok (table_at space cube own (functions.Attribute found)))) f is in
+      let (found, second, rest) = got (attribute_at space cube own name) (λ found. Ok (table_at space cube own (functions.Attribute found))) f more in
       made own (functions.Attribute found) f rest
   attribute _ f is = absurd (cc is)
 

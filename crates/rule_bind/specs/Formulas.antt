@@ -8,6 +8,7 @@ use Rattle.rule_laws.specs.declared.formula.Truth.TheVariants as truths
 use Rattle.rule_laws.specs.declared.operation.Op.{Op}
 use Rattle.rule_laws.specs.declared.operation.Fun.{Fun}
 use Rattle.rule_laws.specs.declared.operation.Fun.TheVariants as funs
+use Rattle.rule_tree.specs.declared.tree.SimpleText.{SimpleText}
 use Rattle.rule_tree.specs.declared.tree.Tree.{Tree}
 use Rattle.rule_tree.specs.declared.tree.Tree.TheFolds.{para-Tree}
 use Rattle.rule_tree.specs.declared.tree.Tree.TheOpen.{Tree-F}
@@ -48,6 +49,13 @@ children space cube Part tree = Err Unsupported
 children space cube ConsolidatedPart tree = do dim ← children_of space cube tree; done (formulas.Children dim)
 children space cube Within tree = Err Unsupported
 
+-- a reference to another cell of the cube
+abbrev pub bracket : Layout → ℕ → List SimpleText → Meaning Formula
+bracket space cube simples = do r ← bracket_of space cube simples; done (formulas.Ref r)
+
+abbrev pub db : Layout → ℕ → List Tree → Meaning Formula
+db space cube trees = do r ← db_of space cube trees; done (formulas.Ref r)
+
 abbrev pub unary : Fun → Meant → Meaning Formula
 unary function m = do a ← m.1.value Within; done (formulas.Unary function a)
 
@@ -84,8 +92,7 @@ children_call space cube at _ = Err WrongCount
 
 abbrev pub call_value : Layout → ℕ → Standing → Function → List Meant → Meaning Formula
 call_value space cube at functions.If arguments = choice_call at arguments
-call_value space cube at functions.Db arguments =
-    do r ← db_of space cube (map (λ m. m.0) arguments); done (formulas.Ref r)
+call_value space cube at functions.Db arguments = db space cube (map (λ m. m.0) arguments)
 call_value space cube at functions.Children arguments = children_call space cube at arguments
 call_value space cube at (functions.One function) arguments = unary_call function arguments
 call_value space cube at (functions.Two op) arguments = binary_call op arguments
@@ -102,8 +109,7 @@ abbrev pub value_step : Layout → ℕ → Standing → Tree-F Meant → Meaning
 value_step space cube at (Tree-F.Number k) = done (formulas.Number k)
 value_step space cube at (Tree-F.Text bytes) = Err Unsupported
 value_step space cube at (Tree-F.Current dim) = Err Unsupported
-value_step space cube at (Tree-F.Bracket simples) =
-    do r ← bracket_of space cube simples; done (formulas.Ref r)
+value_step space cube at (Tree-F.Bracket simples) = bracket space cube simples
 value_step space cube at Tree-F.Stet = alone formulas.Stet at
 value_step space cube at Tree-F.Continue = alone formulas.Continue at
 value_step space cube at (Tree-F.Call word arguments) = call_value space cube at (function_of word) arguments

@@ -40,6 +40,17 @@ own_place space cube place tree = do
   other ← ok_or (axis_called (axes space cube) name) UnknownName
   same_place place other
 
+-- the place of the dimension that a quoted text names, where a ! and that dimension follow it
+unfoldable pub own_axis : Layout → ℕ → Tree → Tree → Meaning ℕ
+own_axis space cube dim of = do
+  place ← axis_named space cube dim
+  own_place space cube place of
+
+-- the place of the dimension of a function of the cell's own element and of nothing else
+abbrev pub plain_place : Layout → ℕ → List Tree → Meaning ℕ
+plain_place space cube (dim ∷ of ∷ []) = own_axis space cube dim of
+plain_place space cube _ = Err WrongCount
+
 -- the element of the dimension at a place that a quoted text names
 unfoldable pub element_at : Layout → ℕ → ℕ → Tree → Meaning ℕ
 element_at space cube place tree = do
@@ -57,11 +68,9 @@ table_at space cube place function = formulas.Table place (numbers_at space cube
 
 -- the cell's own element and nothing else
 abbrev pub plain_call : Layout → ℕ → ElementFunction → List Tree → Meaning Formula
-plain_call space cube function (dim ∷ of ∷ []) = do
-  place ← axis_named space cube dim
-  own ← own_place space cube place of
+plain_call space cube function arguments = do
+  own ← plain_place space cube arguments
   done (table_at space cube own function)
-plain_call space cube function _ = Err WrongCount
 
 -- whether the cell's own element is a component of another one, or lies below it at any depth
 abbrev pub under : Bool → ℕ → ElementFunction
@@ -80,8 +89,7 @@ upper_call space cube deep _ = Err WrongCount
 -- the cell's own element and one whose component it is
 abbrev pub component_call : Layout → ℕ → List Tree → Meaning Formula
 component_call space cube (dim ∷ of ∷ element ∷ []) = do
-  place ← axis_named space cube dim
-  own ← own_place space cube place of
+  own ← own_axis space cube dim of
   parent ← element_at space cube own element
   done (table_at space cube own (functions.ComponentOf parent))
 component_call space cube _ = Err WrongCount
@@ -89,8 +97,7 @@ component_call space cube _ = Err WrongCount
 -- an attribute of the cell's own element
 abbrev pub attribute_call : Layout → ℕ → List Tree → Meaning Formula
 attribute_call space cube (dim ∷ of ∷ name ∷ []) = do
-  place ← axis_named space cube dim
-  own ← own_place space cube place of
+  own ← own_axis space cube dim of
   attribute ← attribute_at space cube own name
   done (table_at space cube own (functions.Attribute attribute))
 attribute_call space cube _ = Err WrongCount

@@ -23,6 +23,7 @@ use Rattle.bind_areas.specs.Areas.{area_of, bracket_of}
 use Rattle.rule_bind.specs.declared.fault.BindAt.{BindAt}
 use Rattle.rule_bind.specs.declared.fault.BindAt.TheVariants as places
 use Rattle.rule_bind.specs.declared.fault.BindFault.{BindFault}
+use Rattle.rule_bind.specs.declared.standing.Standing.{Standing}
 use Rattle.rule_bind.specs.declared.standing.Standing.TheVariants as standings
 use Rattle.rule_bind.specs.References.{db_of}
 use Rattle.rule_bind.specs.Formulas.{value_of}
@@ -40,22 +41,27 @@ consolidated_of space cube tree = value_of space cube [] standings.ConsolidatedP
 abbrev pub Parts : Type 0
 Parts = Option Formula × Option Formula
 
+-- the one for leaf cells, and then the one for consolidated cells
+abbrev pub leaf_first : Layout → ℕ → Sets → Tree → Standing → Tree → Meaning Parts
+leaf_first space cube sets leaf at cons = do
+  f ← part_of space cube sets leaf
+  g ← value_of space cube [] at cons
+  done (Some f, Some g)
+
+-- the one for consolidated cells, and then the one for leaf cells
+abbrev pub cons_first : Layout → ℕ → Sets → Tree → Tree → Meaning Parts
+cons_first space cube sets cons leaf = do
+  g ← consolidated_of space cube cons
+  f ← part_of space cube sets leaf
+  done (Some f, Some g)
+
 -- a formula for both kinds is bound once for each: of the area of consolidated cells nothing is known
 abbrev pub parts_of : Layout → ℕ → Sets → BodyText → Meaning Parts
-parts_of space cube sets (bodies.Both tree) = do
-  f ← part_of space cube sets tree
-  g ← part_of space cube [] tree
-  done (Some f, Some g)
+parts_of space cube sets (bodies.Both tree) = leaf_first space cube sets tree standings.Part tree
 parts_of space cube sets (bodies.Leaf tree) = do f ← part_of space cube sets tree; done (Some f, None)
 parts_of space cube sets (bodies.Cons tree) = do g ← consolidated_of space cube tree; done (None, Some g)
-parts_of space cube sets (bodies.LeafCons leaf cons) = do
-  f ← part_of space cube sets leaf
-  g ← consolidated_of space cube cons
-  done (Some f, Some g)
-parts_of space cube sets (bodies.ConsLeaf cons leaf) = do
-  g ← consolidated_of space cube cons
-  f ← part_of space cube sets leaf
-  done (Some f, Some g)
+parts_of space cube sets (bodies.LeafCons leaf cons) = leaf_first space cube sets leaf standings.ConsolidatedPart cons
+parts_of space cube sets (bodies.ConsLeaf cons leaf) = cons_first space cube sets cons leaf
 
 -- the part that stands first or alone
 abbrev pub form_of : BodyText → Form

@@ -16,7 +16,7 @@ use Rattle.bind_arguments.specs.declared.element_function.ElementFunction.{Eleme
 use Rattle.bind_arguments.specs.declared.element_function.ElementFunction.TheVariants as functions
 use Rattle.bind_arguments.specs.declared.element_text.ElementText.{ElementText}
 use Rattle.bind_arguments.specs.declared.element_text.ElementText.TheVariants as texts
-use Rattle.rule_bind.specs.OwnNumbers.{axis_named, own_place, same_place, attribute_at, table_at}
+use Rattle.rule_bind.specs.OwnNumbers.{plain_place, own_axis, same_place, attribute_at, table_at}
 use Rattle.rule_bind.specs.Sureness.{Sets, comparison}
 
 -- the place of the dimension whose element has a text, where that isn't the same for all, and the text
@@ -25,17 +25,14 @@ Side = Option ℕ × ElementText
 
 -- DTYPE of the cell's own element
 abbrev pub kind_side : Layout → ℕ → List Tree → Meaning Side
-kind_side space cube (dim ∷ of ∷ []) = do
-  place ← axis_named space cube dim
-  own ← own_place space cube place of
+kind_side space cube arguments = do
+  own ← plain_place space cube arguments
   done (Some own, texts.Kind)
-kind_side space cube _ = Err WrongCount
 
 -- ATTRS of the cell's own element
 abbrev pub attribute_side : Layout → ℕ → List Tree → Meaning Side
 attribute_side space cube (dim ∷ of ∷ name ∷ []) = do
-  place ← axis_named space cube dim
-  own ← own_place space cube place of
+  own ← own_axis space cube dim of
   attribute ← attribute_at space cube own name
   done (Some own, texts.Attribute attribute)
 attribute_side space cube _ = Err WrongCount

@@ -2,6 +2,7 @@ ghost use Rattle.std.specs.Prelude.{◌≡◌, Ok};
 ghost use Rattle.bind_areas.specs.Meaning.{Answers};
 ghost use Rattle.rule_bind.specs.DimensionSize.{size_named, counted, size_call};
 
+use crate::boxes::boxed;
 use crate::reference::fixed_name;
 use bind_areas::BindCause;
 use cube_fixed::Money;
@@ -27,11 +28,11 @@ fn size_named(alloc: Global, space: &Space, tree: &Tree) -> Result<u32, BindCaus
 
 // A number in units. It stands in a `TRUNC`, which leaves it as it is: the zero test takes a number alone for one that
 // is written in the rule, and what it finds mustn't change with the elements of a dimension.
-fn counted(alloc: Global, units: u32) -> Result<Formula, BindCause>
+fn counted(alloc: Global, units: u32) -> Result<Boxed<Formula>, BindCause>
     ensures { Answers (Ok (counted units)) result }
 {
-    let number = Boxed::new(alloc, Formula::Number(Money::of_units(units)))?;
-    Ok(Formula::Unary(Fun::Trunc, number))
+    let number = boxed(alloc, Formula::Number(Money::of_units(units)))?;
+    boxed(alloc, Formula::Unary(Fun::Trunc, number))
 }
 
 /// What `DIMSIZ` means with these arguments.
@@ -40,7 +41,7 @@ pub(crate) fn size_call(
     alloc: Global,
     space: &Space,
     arguments: &[Tree],
-) -> Result<Formula, BindCause>
+) -> Result<Boxed<Formula>, BindCause>
     ensures { Answers (size_call space.now arguments.now) result }
 {
     match arguments {

@@ -1,7 +1,7 @@
 use bind_areas::BindCause;
 
 /// Where a rule text has a fault.
-#[derive(Clone, Copy, Debug, PartialEq, Eq)]
+#[derive(Clone, Copy)]
 pub enum BindAt {
     /// In this statement, counted from 1.
     Statement(u32),
@@ -11,7 +11,7 @@ pub enum BindAt {
 
 /// The first fault of a rule text, in reading order. Where two causes stand at one place, it is the one that comes
 /// first among those of [`BindCause`].
-#[derive(Clone, Copy, Debug, PartialEq, Eq)]
+#[derive(Clone, Copy)]
 pub struct BindFault {
     pub at: BindAt,
     pub cause: BindCause,

@@ -4,7 +4,7 @@ ghost use Rattle.rule_bind.specs.Functions.{own_function, value_function, functi
 use rule_laws::{Fun, Op};
 
 /// A function of the cell's own element in one dimension.
-#[derive(Clone, Copy, PartialEq, Eq)]
+#[derive(Clone, Copy)]
 pub(crate) enum OwnFunction {
     /// `DIMIX`
     Place,
@@ -25,7 +25,7 @@ pub(crate) enum OwnFunction {
 }
 
 /// A function that is a value.
-#[derive(Clone, Copy, PartialEq, Eq)]
+#[derive(Clone, Copy)]
 pub(crate) enum Function {
     /// `IF`
     If,

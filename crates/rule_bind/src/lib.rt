@@ -22,6 +22,7 @@ pub use standing::Standing;
 pub use sureness::Test;
 
 mod binding;
+mod boxes;
 mod dimension_size;
 mod fault;
 mod feeder;

@@ -5,7 +5,7 @@ use rule_laws::{Op, Rel};
 use rule_tree::TreeOp;
 
 /// What an operator means: a value of two values, a truth of two values or of two texts, or a truth of two truths.
-#[derive(Clone, Copy, PartialEq, Eq)]
+#[derive(Clone, Copy)]
 pub(crate) enum Operator {
     Operation(Op),
     Comparison(Rel),

@@ -5,8 +5,10 @@ ghost use Rattle.bind_areas.specs.Meaning.{Answers};
 ghost use Rattle.bind_arguments.specs.Maps.{AreMapsIn};
 ghost use Rattle.bind_arguments.specs.Numbers.{is_within_at};
 ghost use Rattle.rule_bind.specs.OwnNumbers.{axis_named, own_place, element_at, attribute_at, table_at};
-ghost use Rattle.rule_bind.specs.OwnNumbers.{plain_call, upper_call, component_call, attribute_call, own_call};
+ghost use Rattle.rule_bind.specs.OwnNumbers.{own_axis, plain_place, under, upper_call, component_call, attribute_call};
+ghost use Rattle.rule_bind.specs.OwnNumbers.{own_call};
 
+use crate::boxes::boxed;
 use crate::function::OwnFunction;
 use crate::reference::{fixed_name, text_in};
 use bind_areas::BindCause;
@@ -15,16 +17,12 @@ use cube_space::{Space, axis, axis_called};
 use dim_name::Name;
 use rule_laws::Formula;
 use rule_tree::Tree;
+use sqlite_items::Boxed;
 use std::alloc::Global;
 
-/// The place in a cube of the dimension that a quoted text names.
+// The place in a cube of the dimension that a quoted text names.
 #[tactic(auto, unfolding(crate::specs::OwnNumbers::axis_named))]
-pub(crate) fn axis_named(
-    alloc: Global,
-    space: &Space,
-    cube: u32,
-    tree: &Tree,
-) -> Result<u32, BindCause>
+fn axis_named(alloc: Global, space: &Space, cube: u32, tree: &Tree) -> Result<u32, BindCause>
     requires { cube < length space.now.cubes }
     ensures answers { Answers (axis_named space.now cube tree.now) result }
     ensures within { IfOk result (λ place. place < length (axes space.now cube)) }
@@ -38,9 +36,9 @@ pub(crate) fn axis_named(
     }
 }
 
-/// The place of a dimension again, where a `!` follows it.
+// The place of a dimension again, where a `!` follows it.
 #[tactic(auto, unfolding(crate::specs::OwnNumbers::own_place))]
-pub(crate) fn own_place(space: &Space, cube: u32, place: u32, tree: &Tree) -> Result<u32, BindCause>
+fn own_place(space: &Space, cube: u32, place: u32, tree: &Tree) -> Result<u32, BindCause>
     requires cube { cube < length space.now.cubes }
     ensures answers { Answers (own_place space.now cube place tree.now) result }
     ensures within { IfOk result (λ own. own ≡ place) }
@@ -53,6 +51,23 @@ pub(crate) fn own_place(space: &Space, cube: u32, place: u32, tree: &Tree) -> Re
         Some(_) => Err(BindCause::Unsupported),
         None => Err(BindCause::UnknownName),
     }
+}
+
+/// The place of the dimension that a quoted text names, where a `!` and that dimension follow it.
+#[tactic(auto, unfolding(crate::specs::OwnNumbers::own_axis))]
+pub(crate) fn own_axis(
+    alloc: Global,
+    space: &Space,
+    cube: u32,
+    dim: &Tree,
+    of: &Tree,
+) -> Result<u32, BindCause>
+    requires { cube < length space.now.cubes }
+    ensures answers { Answers (own_axis space.now cube dim.now of.now) result }
+    ensures within { IfOk result (λ own. own < length (axes space.now cube)) }
+{
+    let place = axis_named(alloc, space, cube, dim)?;
+    own_place(space, cube, place, of)
 }
 
 // The element of the dimension at a place that a quoted text names.
@@ -109,7 +124,7 @@ pub(crate) fn table_at(
     cube: u32,
     place: u32,
     function: ElementFunction,
-) -> Result<Formula, BindCause>
+) -> Result<Boxed<Formula>, BindCause>
     requires cube { cube < length space.now.cubes }
     requires place { place < length (axes space.now cube) }
     requires within { is_within_at space.now cube place function }
@@ -118,35 +133,39 @@ pub(crate) fn table_at(
     ensures maps { AreMapsIn space.now maps.new }
 {
     let table = maps.table_of(alloc, space, cube, place, function)?;
-    Ok(Formula::Table(place, table))
+    boxed(alloc, Formula::Table(place, table))
 }
 
-// A function of the cell's own element and of nothing else.
-fn plain_call(
+/// The place of the dimension of a function of the cell's own element and of nothing else.
+pub(crate) fn plain_place(
     alloc: Global,
     space: &Space,
-    maps: &mut BoundMaps,
     cube: u32,
-    function: ElementFunction,
     arguments: &[Tree],
-) -> Result<Formula, BindCause>
+) -> Result<u32, BindCause>
     requires cube { cube < length space.now.cubes }
-    requires within { (place : ℕ) → is_within_at space.now cube place function }
-    requires maps { AreMapsIn space.now maps.old }
-    ensures answers { Answers (plain_call space.now cube function arguments.now) result }
-    ensures maps { AreMapsIn space.now maps.new }
+    ensures answers { Answers (plain_place space.now cube arguments.now) result }
+    ensures within { IfOk result (λ own. own < length (axes space.now cube)) }
 {
     match arguments {
-        [dim, of] => {
-            let place = axis_named(alloc, space, cube, dim)?;
-            let own = own_place(space, cube, place, of)?;
-            table_at(alloc, space, maps, cube, own, function)
-        }
+        [dim, of] => own_axis(alloc, space, cube, dim, of),
         _ => Err(BindCause::WrongCount),
     }
 }
 
+// Whether an element is a component of another one, or lies below it.
+fn under(deep: bool, above: u32) -> ElementFunction
+    ensures { result ≡ under deep above }
+{
+    if deep {
+        ElementFunction::Below(above)
+    } else {
+        ElementFunction::ComponentOf(above)
+    }
+}
+
 // Whether an element is a parent of the cell's own one, or lies above it.
+#[tactic(auto, using(crate::proofs::OwnFacts::under_within))]
 fn upper_call(
     alloc: Global,
     space: &Space,
@@ -154,7 +173,7 @@ fn upper_call(
     cube: u32,
     deep: bool,
     arguments: &[Tree],
-) -> Result<Formula, BindCause>
+) -> Result<Boxed<Formula>, BindCause>
     requires cube { cube < length space.now.cubes }
     requires maps { AreMapsIn space.now maps.old }
     ensures answers { Answers (upper_call space.now cube deep arguments.now) result }
@@ -165,13 +184,7 @@ fn upper_call(
             let place = axis_named(alloc, space, cube, dim)?;
             let above = element_at(alloc, space, cube, place, element)?;
             let own = own_place(space, cube, place, of)?;
-            if deep {
-                let function = ElementFunction::Below(above);
-                table_at(alloc, space, maps, cube, own, function)
-            } else {
-                let function = ElementFunction::ComponentOf(above);
-                table_at(alloc, space, maps, cube, own, function)
-            }
+            table_at(alloc, space, maps, cube, own, under(deep, above))
         }
         _ => Err(BindCause::WrongCount),
     }
@@ -184,7 +197,7 @@ fn component_call(
     maps: &mut BoundMaps,
     cube: u32,
     arguments: &[Tree],
-) -> Result<Formula, BindCause>
+) -> Result<Boxed<Formula>, BindCause>
     requires cube { cube < length space.now.cubes }
     requires maps { AreMapsIn space.now maps.old }
     ensures answers { Answers (component_call space.now cube arguments.now) result }
@@ -192,8 +205,7 @@ fn component_call(
 {
     match arguments {
         [dim, of, element] => {
-            let place = axis_named(alloc, space, cube, dim)?;
-            let own = own_place(space, cube, place, of)?;
+            let own = own_axis(alloc, space, cube, dim, of)?;
             let parent = element_at(alloc, space, cube, own, element)?;
             let function = ElementFunction::ComponentOf(parent);
             table_at(alloc, space, maps, cube, own, function)
@@ -209,7 +221,7 @@ fn attribute_call(
     maps: &mut BoundMaps,
     cube: u32,
     arguments: &[Tree],
-) -> Result<Formula, BindCause>
+) -> Result<Boxed<Formula>, BindCause>
     requires cube { cube < length space.now.cubes }
     requires maps { AreMapsIn space.now maps.old }
     ensures answers { Answers (attribute_call space.now cube arguments.now) result }
@@ -217,8 +229,7 @@ fn attribute_call(
 {
     match arguments {
         [dim, of, name] => {
-            let place = axis_named(alloc, space, cube, dim)?;
-            let own = own_place(space, cube, place, of)?;
+            let own = own_axis(alloc, space, cube, dim, of)?;
             let attribute = attribute_at(alloc, space, cube, own, name)?;
             let function = ElementFunction::Attribute(attribute);
             table_at(alloc, space, maps, cube, own, function)
@@ -236,7 +247,7 @@ pub(crate) fn own_call(
     cube: u32,
     function: OwnFunction,
     arguments: &[Tree],
-) -> Result<Formula, BindCause>
+) -> Result<Boxed<Formula>, BindCause>
     requires cube { cube < length space.now.cubes }
     requires maps { AreMapsIn space.now maps.old }
     ensures answers { Answers (own_call space.now cube function arguments.now) result }
@@ -244,34 +255,31 @@ pub(crate) fn own_call(
 {
     match function {
         OwnFunction::Place => {
-            plain_call(alloc, space, maps, cube, ElementFunction::Place, arguments)
+            let own = plain_place(alloc, space, cube, arguments)?;
+            table_at(alloc, space, maps, cube, own, ElementFunction::Place)
         }
         OwnFunction::Level => {
-            plain_call(alloc, space, maps, cube, ElementFunction::Level, arguments)
+            let own = plain_place(alloc, space, cube, arguments)?;
+            table_at(alloc, space, maps, cube, own, ElementFunction::Level)
         }
         OwnFunction::HasParent => upper_call(alloc, space, maps, cube, false, arguments),
         OwnFunction::HasAncestor => upper_call(alloc, space, maps, cube, true, arguments),
         OwnFunction::IsComponent => component_call(alloc, space, maps, cube, arguments),
         OwnFunction::Attribute => attribute_call(alloc, space, maps, cube, arguments),
         OwnFunction::ComponentCount => {
-            plain_call(
+            let own = plain_place(alloc, space, cube, arguments)?;
+            table_at(
                 alloc,
                 space,
                 maps,
                 cube,
+                own,
                 ElementFunction::ComponentCount,
-                arguments,
             )
         }
         OwnFunction::ParentCount => {
-            plain_call(
-                alloc,
-                space,
-                maps,
-                cube,
-                ElementFunction::ParentCount,
-                arguments,
-            )
+            let own = plain_place(alloc, space, cube, arguments)?;
+            table_at(alloc, space, maps, cube, own, ElementFunction::ParentCount)
         }
     }
 }

@@ -1,7 +1,7 @@
 ghost use Rattle.std.specs.Prelude.{◌≡◌, ◌<◌, length};
 ghost use Rattle.bind_areas.specs.Meaning.{Answers};
 ghost use Rattle.bind_arguments.specs.Maps.{AreMapsIn};
-ghost use Rattle.rule_bind.specs.Rules.{parts_of, form_of, statement_of};
+ghost use Rattle.rule_bind.specs.Rules.{leaf_first, cons_first, parts_of, form_of, statement_of};
 
 use crate::formula::value_of;
 use crate::standing::Standing;
@@ -11,8 +11,12 @@ use cube_space::Space;
 use lists::ListOf;
 use rule_laws::Formula;
 use rule_model::{Form, Statement};
-use rule_tree::{BodyText, StatementText};
+use rule_tree::{BodyText, StatementText, Tree};
+use sqlite_items::Boxed;
 use std::alloc::Global;
+
+// The parts of a statement in their boxes, for leaf cells and for consolidated cells.
+type Parts = (Option<Boxed<Formula>>, Option<Boxed<Formula>>);
 
 // The part that stands first, or alone.
 fn form_of(body: &BodyText) -> Form
@@ -25,8 +29,57 @@ fn form_of(body: &BodyText) -> Form
     }
 }
 
-// The parts of a statement, for leaf cells and for consolidated cells. A formula for both is bound once for each: what
-// its area has in each dimension is told of leaf cells alone.
+// The part for leaf cells, and then the one for consolidated cells. What the area has in each dimension is told of leaf
+// cells alone.
+fn leaf_first(
+    alloc: Global,
+    space: &Space,
+    maps: &mut BoundMaps,
+    cube: u32,
+    sets: &[Option<ListOf<u32>>],
+    leaf: &Tree,
+    at: Standing,
+    cons: &Tree,
+) -> Result<Parts, BindCause>
+    requires cube { cube < length space.now.cubes }
+    requires maps { AreMapsIn space.now maps.old }
+    ensures answers { Answers (leaf_first space.now cube sets.now leaf.now at cons.now) result }
+    ensures maps { AreMapsIn space.now maps.new }
+{
+    let leaf = value_of(alloc, space, maps, cube, sets, Standing::Part, leaf)?;
+    let cons = value_of(alloc, space, maps, cube, &[], at, cons)?;
+    Ok((Some(leaf), Some(cons)))
+}
+
+// The part for consolidated cells, and then the one for leaf cells.
+fn cons_first(
+    alloc: Global,
+    space: &Space,
+    maps: &mut BoundMaps,
+    cube: u32,
+    sets: &[Option<ListOf<u32>>],
+    cons: &Tree,
+    leaf: &Tree,
+) -> Result<Parts, BindCause>
+    requires cube { cube < length space.now.cubes }
+    requires maps { AreMapsIn space.now maps.old }
+    ensures answers { Answers (cons_first space.now cube sets.now cons.now leaf.now) result }
+    ensures maps { AreMapsIn space.now maps.new }
+{
+    let cons = value_of(
+        alloc,
+        space,
+        maps,
+        cube,
+        &[],
+        Standing::ConsolidatedPart,
+        cons,
+    )?;
+    let leaf = value_of(alloc, space, maps, cube, sets, Standing::Part, leaf)?;
+    Ok((Some(leaf), Some(cons)))
+}
+
+// The parts of a statement, for leaf cells and for consolidated cells. A formula for both is bound once for each.
 fn parts_of(
     alloc: Global,
     space: &Space,
@@ -34,7 +87,7 @@ fn parts_of(
     cube: u32,
     sets: &[Option<ListOf<u32>>],
     body: &BodyText,
-) -> Result<(Option<Formula>, Option<Formula>), BindCause>
+) -> Result<Parts, BindCause>
     requires cube { cube < length space.now.cubes }
     requires maps { AreMapsIn space.now maps.old }
     ensures answers { Answers (parts_of space.now cube sets.now body.now) result }
@@ -43,9 +96,7 @@ fn parts_of(
     let at = Standing::ConsolidatedPart;
     match body {
         BodyText::Both(tree) => {
-            let leaf = value_of(alloc, space, maps, cube, sets, Standing::Part, tree)?;
-            let cons = value_of(alloc, space, maps, cube, &[], Standing::Part, tree)?;
-            Ok((Some(leaf), Some(cons)))
+            leaf_first(alloc, space, maps, cube, sets, tree, Standing::Part, tree)
         }
         BodyText::Leaf(leaf) => {
             let leaf = value_of(alloc, space, maps, cube, sets, Standing::Part, leaf)?;
@@ -56,15 +107,19 @@ fn parts_of(
             Ok((None, Some(cons)))
         }
         BodyText::LeafCons(leaf, cons) => {
-            let leaf = value_of(alloc, space, maps, cube, sets, Standing::Part, leaf)?;
-            let cons = value_of(alloc, space, maps, cube, &[], at, cons)?;
-            Ok((Some(leaf), Some(cons)))
+            leaf_first(alloc, space, maps, cube, sets, leaf, at, cons)
         }
-        BodyText::ConsLeaf(cons, leaf) => {
-            let cons = value_of(alloc, space, maps, cube, &[], at, cons)?;
-            let leaf = value_of(alloc, space, maps, cube, sets, Standing::Part, leaf)?;
-            Ok((Some(leaf), Some(cons)))
-        }
+        BodyText::ConsLeaf(cons, leaf) => { cons_first(alloc, space, maps, cube, sets, cons, leaf) }
+    }
+}
+
+// A part out of its box.
+fn part(formula: Option<Boxed<Formula>>) -> Option<Formula>
+    ensures { result ≡ formula }
+{
+    match formula {
+        Some(formula) => Some(formula.into_inner()),
+        None => None,
     }
 }
 
@@ -88,8 +143,8 @@ pub fn statement_of(
     let form = form_of(&text.body);
     Ok(Statement {
         area,
-        leaf,
-        cons,
+        leaf: part(leaf),
+        cons: part(cons),
         form,
     })
 }

@@ -6,8 +6,9 @@ ghost use Rattle.bind_arguments.specs.Numbers.{is_within_at};
 ghost use Rattle.rule_bind.specs.Texts.{kind_side, attribute_side, call_side, name_side, side_of, shared_place};
 ghost use Rattle.rule_bind.specs.Texts.{compared, texts_truth};
 
-use crate::own_numbers::{attribute_at, axis_named, own_place, table_at};
-use crate::sureness::comparison;
+use crate::boxes::boxed;
+use crate::own_numbers::{attribute_at, own_axis, plain_place, table_at};
+use crate::sureness::compare;
 use bind_areas::BindCause;
 use bind_arguments::{BoundMaps, ElementFunction, ElementText};
 use cube_fixed::Money;
@@ -16,6 +17,7 @@ use dim_name::Name;
 use lists::ListOf;
 use rule_laws::{Formula, Rel, Truth};
 use rule_tree::Tree;
+use sqlite_items::Boxed;
 use std::alloc::Global;
 
 // `DTYPE` of the cell's own element.
@@ -29,14 +31,8 @@ fn kind_side(
     ensures answers { Answers (kind_side space.now cube arguments.now) result }
     ensures within { IfOk result (λ side. IfSome side.0 (λ place. place < length (axes space.now cube))) }
 {
-    match arguments {
-        [dim, of] => {
-            let place = axis_named(alloc, space, cube, dim)?;
-            let own = own_place(space, cube, place, of)?;
-            Ok((Some(own), ElementText::Kind))
-        }
-        _ => Err(BindCause::WrongCount),
-    }
+    let own = plain_place(alloc, space, cube, arguments)?;
+    Ok((Some(own), ElementText::Kind))
 }
 
 // `ATTRS` of the cell's own element.
@@ -52,8 +48,7 @@ fn attribute_side(
 {
     match arguments {
         [dim, of, name] => {
-            let place = axis_named(alloc, space, cube, dim)?;
-            let own = own_place(space, cube, place, of)?;
+            let own = own_axis(alloc, space, cube, dim, of)?;
             let attribute = attribute_at(alloc, space, cube, own, name)?;
             Ok((Some(own), ElementText::Attribute(attribute)))
         }
@@ -149,7 +144,7 @@ fn compared(
     rel: Rel,
     place: u32,
     function: ElementFunction,
-) -> Result<Truth, BindCause>
+) -> Result<Boxed<Truth>, BindCause>
     requires cube { cube < length space.now.cubes }
     requires place { place < length (axes space.now cube) }
     requires within { is_within_at space.now cube place function }
@@ -158,8 +153,8 @@ fn compared(
     ensures maps { AreMapsIn space.now maps.new }
 {
     let table = table_at(alloc, space, maps, cube, place, function)?;
-    let one = Formula::Number(Money::of_units(1));
-    Ok(comparison(space, cube, sets, rel, table, one))
+    let one = boxed(alloc, Formula::Number(Money::of_units(1)))?;
+    compare(alloc, space, cube, sets, rel, table, one)
 }
 
 /// What a comparison of two texts means.
@@ -173,7 +168,7 @@ pub(crate) fn texts_truth(
     rel: Rel,
     left: &Tree,
     right: &Tree,
-) -> Result<Truth, BindCause>
+) -> Result<Boxed<Truth>, BindCause>
     requires cube { cube < length space.now.cubes }
     requires maps { AreMapsIn space.now maps.old }
     ensures answers { Answers (texts_truth space.now cube sets.now rel left.now right.now) result }
