@@ -204,8 +204,8 @@ fn side(
     }
 }
 
-// A comparison of two formulas. Where one is a table and the other a number, and the comparison is the same for all leaf
-// elements that these sets of an area have in the table's dimension, the number of the first stands in its place.
+// A comparison of two formulas. Where one is a table and the other a number, and the comparison is the same for all
+// leaf elements that these sets of an area have in the table's dimension, the number of the first stands in its place.
 #[tactic(auto, unfolding(crate::specs::Sureness::comparison))]
 fn comparison(
     space: &Space,
