@@ -514,6 +514,47 @@ def many_views(folder, n):
     return write(folder, m_txt=m, u_txt="VIEW 'C' ROWS 'A' COLUMNS 'B';\n" * n)
 
 
+# Explanations.
+
+
+def noted_references(folder, n):
+    """n references that name nothing, up to 100 in each statement: each has a note."""
+    m = model(dimension("T", leaves("t", 4)), dimension("I", leaves("i", max(1, n // 100))), dimension("K", "N 'A'; N 'B';\n"))
+    m += "CUBE 'C' ('T', 'I', 'K'); RULES 'r.rux'; ORDER 'T'; END;\n"
+    one = " + ".join(["DB('C', DIMNM('T', DIMIX('T', !T) - 9), !I, 'A')"] * 100)
+    r = "".join(f"['A', 'i{i}'] = N: {one};\n" for i in range(1, max(1, n // 100) + 1))
+    write(folder, m_txt=m, r_rux=r)
+    return ["--explain", "m.txt"]
+
+
+def noted_elements(folder, n):
+    """n consolidated elements without components: each has a note."""
+    m = model(dimension("T", "".join(f"C 't{i}';\n" for i in range(1, n + 1))), dimension("K", "N 'A'; N 'B';\n"))
+    write(folder, m_txt=m + "CUBE 'C' ('T', 'K'); END;\n")
+    return ["--explain", "m.txt"]
+
+
+def near_areas(folder, n):
+    """1,000 statements for n / 1,000 elements each, all but the last of which are those of the others."""
+    own = n // 1000
+    m = model(dimension("I", leaves("i", own + 1000)), dimension("K", "N 'A'; N 'B';\n"))
+    m += "CUBE 'C' ('I', 'K'); RULES 'r.rux'; ORDER 'K' ('A' 1); END;\n"
+    same = ", ".join(f"'i{i}'" for i in range(1, own))
+    r = "".join(f"['A', {{{same}, 'i{own + s}'}}] = N: ['B'];\n" for s in range(1, 1001))
+    write(folder, m_txt=m, r_rux=r)
+    return ["--explain", "m.txt"]
+
+
+def late_reference(folder, n):
+    """1,000 statements for all of n elements; the last reads a cell that comes late."""
+    m = model(dimension("T", leaves("t", n)), dimension("K", "".join(f"N 'K{k}';\n" for k in range(1001))))
+    m += "CUBE 'C' ('T', 'K'); RULES 'r.rux'; ORDER 'T'; END;\n"
+    r = "".join(f"['K{s}'] = N: DB('C', DIMNM('T', DIMIX('T', !T) - 1), 'K0');\n" for s in range(1, 1000))
+    r += "['K1000'] = N: DB('C', DIMNM('T', DIMIX('T', !T) + 1), 'K0');\n"
+    write(folder, m_txt=m, r_rux=r)
+    return ["--explain", "m.txt"]
+
+
 # Texts and files.
 
 
@@ -581,5 +622,6 @@ SHAPES = [
     (clearing_load, 100000), (adding_load, 100000), (paired_load, 100000), (faulty_records, 100000), (faulty_variables, 100000), (large_plan, 800000), (plain_increments, 1000000), (equal_loads, 2000),
     (variables, 100000), (parameters, 100000), (joins, 40),
     (recurrence, 240), (stock, 20000), (wide_formula, 900), (ruled_total, 800000), (traced_total, 800000), (empty_axis, 90000), (many_views, 2000),
+    (noted_references, 16000), (noted_elements, 100000), (near_areas, 1000000), (late_reference, 99000),
     (semicolons, 100000000), (semicolon_model, 2**30), (semicolon_rules, 100000000), (semicolon_script, 100000000), (load_files, 65000),
 ]

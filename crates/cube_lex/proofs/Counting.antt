@@ -4,12 +4,13 @@ use Rattle.std.proofs.lemmas.List.{length-map}
 use Rattle.std.specs.List.{count_by}
 use Rattle.cube_lex.specs.Ahead.{Ahead}
 use Rattle.cube_lex.specs.Bytes.{is_line_end}
-use Rattle.cube_lex.specs.Fault.{Stops}
+use Rattle.cube_lex.specs.Fault.{Stops, place_of}
 use Rattle.cube_lex.specs.Inside.Counted.{Counts}
 use Rattle.cube_lex.specs.Lexeme.{Lexeme, lexeme_of}
 use Rattle.cube_lex.specs.Parts.{IsPart}
 use Rattle.cube_lex.specs.Reading.{IsReading, mark_len, most_text_bytes}
 use Rattle.cube_lex.specs.declared.fault.LexFault.{LexFault}
+use Rattle.cube_lex.specs.declared.position.Position.{Position}
 use Rattle.cube_lex.specs.declared.token.Token.{Token}
 use Rattle.cube_lex.proofs.Readings.{Going, going-init, going-blank, going-token, reading-done, reading-stopped, mark-facts}
 
@@ -45,7 +46,7 @@ module _ (text : List ℕ) (count at line : ℕ) (rest bytes after : List ℕ) (
         one-at-least (b ∷ bs) some = omega arith
 
 pub counted-done : (text : List ℕ) (count at line : ℕ) (rest : List ℕ) → Counting text count at line rest → length rest ≡ 0 → length text ≤ 2 ^ 30
-    → Counts text (record { tokens = count; end_line = line; fault = None })
+    → Counts text (record { tokens = count; end = record { offset = length text; line = line }; fault = None })
 counted-done text count at line rest so_far empty small = (
   map lexeme_of so_far.tokens,
   reading-done text so_far.tokens at line rest so_far.going empty small,
@@ -53,7 +54,7 @@ counted-done text count at line rest so_far empty small = (
 )
 
 pub counted-stopped : (text : List ℕ) (count at line : ℕ) (rest : List ℕ) (fault : LexFault) → Counting text count at line rest → Stops at rest (Some fault) → length text ≤ 2 ^ 30
-    → Counts text (record { tokens = count; end_line = line; fault = Some fault })
+    → Counts text (record { tokens = count; end = record { offset = place_of text (Some fault); line = line }; fault = Some fault })
 counted-stopped text count at line rest fault so_far stops small = (
   map lexeme_of so_far.tokens,
   reading-stopped text so_far.tokens at line rest fault so_far.going stops small,
@@ -61,10 +62,10 @@ counted-stopped text count at line rest fault so_far stops small = (
 )
 
 -- what is read of a text stands behind its mark
-pub reading-ahead : (text : List ℕ) (count line : ℕ) (lexemes : List Lexeme) (fault : Option LexFault) → length text ≤ 2 ^ 30
-    → IsReading text (record { lexemes = lexemes; end_line = line }) fault → count ≡ length lexemes → Ahead text (mark_len text) 1 count lexemes
+pub reading-ahead : (text : List ℕ) (count : ℕ) (end : Position) (lexemes : List Lexeme) (fault : Option LexFault) → length text ≤ 2 ^ 30
+    → IsReading text (record { lexemes = lexemes; end = end }) fault → count ≡ length lexemes → Ahead text (mark_len text) 1 count lexemes
 unfolding most_text_bytes
-reading-ahead text count line lexemes fault small is count-is =
+reading-ahead text count end lexemes fault small is count-is =
     let (parts, rest, divided, lexemes-are, stops) = is.within small in
     record {
       parts = parts;

@@ -172,32 +172,32 @@ fault-line text at rest Memory text-is within stops = absurd stops
 
 -- at the end of the text
 pub reading-done : (text : List ℕ) (tokens : List Token) (at line : ℕ) (rest : List ℕ) → Going text tokens at line rest → length rest ≡ 0 → length text ≤ 2 ^ 30
-    → IsReading text (lexed_of tokens line) None
+    → IsReading text (lexed_of tokens (record { offset = length text; line = line })) None
 unfolding most_text_bytes
 reading-done text tokens at line rest going empty small = record {
   oversize = λ large. absurd (omega (arith, large, small));
   within = λ fits. (going.parts, rest, going.divided, going.tokens_are, nothing rest empty);
-  end = going.line_is ∙ ap (line_at text) (omega (arith, going.at_is, empty));
+  end = ap (λ l. record { offset = length text; line = l }) (going.line_is ∙ ap (line_at text) (omega (arith, going.at_is, empty)));
 }
 
 -- at the first fault
 pub reading-stopped : (text : List ℕ) (tokens : List Token) (at line : ℕ) (rest : List ℕ) (fault : LexFault) → Going text tokens at line rest → Stops at rest (Some fault)
-    → length text ≤ 2 ^ 30 → IsReading text (lexed_of tokens line) (Some fault)
+    → length text ≤ 2 ^ 30 → IsReading text (lexed_of tokens (record { offset = place_of text (Some fault); line = line })) (Some fault)
 unfolding most_text_bytes
 reading-stopped text tokens at line rest fault going stops small = record {
   oversize = λ large. absurd (omega (arith, large, small));
   within = λ fits. (going.parts, rest, going.divided, going.tokens_are, subst (λ n. Stops n rest (Some fault)) place stops);
-  end = going.line_is ∙ sym (fault-line text at rest fault going.front_is (omega (arith, going.at_is)) stops);
+  end = ap (λ l. record { offset = place_of text (Some fault); line = l }) (going.line_is ∙ sym (fault-line text at rest fault going.front_is (omega (arith, going.at_is)) stops));
 } where
   place : at ≡ length text - length rest
   place = omega (arith, going.at_is)
 
 -- a text of too many bytes
 pub reading-oversize : (text : List ℕ) (line : ℕ) → 2 ^ 30 < length text → line ≡ 1 + count_by is_line_end (take (2 ^ 30) text)
-    → IsReading text (lexed_of [] line) (Some (TooLong (2 ^ 30)))
+    → IsReading text (lexed_of [] (record { offset = 2 ^ 30; line = line })) (Some (TooLong (2 ^ 30)))
 unfolding most_text_bytes
 reading-oversize text line large line-is = record {
   oversize = λ _. (refl, refl);
   within = λ small. absurd (omega (arith, large, small));
-  end = line-is;
+  end = ap (λ l. record { offset = 2 ^ 30; line = l }) line-is;
 }

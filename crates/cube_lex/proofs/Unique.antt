@@ -2,11 +2,12 @@
 use Rattle.std.proofs.Common.{◌≡◌, ℕ, ◌+◌, ◌-◌, ◌<◌, ◌≤◌, true, false, List, [], ◌∷◌, ◌++◌, length, take, drop, refl, sym, ap, ◌∙◌, subst, arith, append_assoc, Some, None, Option, inl, inr, leb, Result, Ok, Err, IfOk}
 use Rattle.std.proofs.lemmas.Bool.{leb-true, leb-false}
 use Rattle.std.proofs.Math.Seq.{take-append_seam, drop-append_seam}
-use Rattle.cube_lex.specs.Bytes.{Begins, is_quote, is_plain, line_at}
+use Rattle.cube_lex.specs.Bytes.{Begins, is_quote, is_plain}
 use Rattle.cube_lex.specs.Fault.{Stops, BeginsPart, BeginsNothing, OpensQuote, HasForbiddenByte, IsOpenQuote, BeginsLongToken, place_of}
 use Rattle.cube_lex.specs.Lexed.{Lexed}
 use Rattle.cube_lex.specs.Lexeme.{Lexeme}
 use Rattle.cube_lex.specs.Parts.{Part, Divides, IsPart, IsLongest, IsToken, Stands}
+use Rattle.cube_lex.specs.Positions.{position_at}
 use Rattle.cube_lex.specs.Quoted.{doubled, quoted}
 use Rattle.cube_lex.specs.Reading.{mark_len, lexemes_among, IsRead, IsReading, most_text_bytes}
 use Rattle.cube_lex.specs.declared.fault.LexFault.{LexFault}
@@ -252,8 +253,8 @@ divides-only at to f g body (p ∷ ps) (q ∷ qs) rest tail (next, x-is, x-part,
     let below : (ps ≡ qs) × (rest ≡ tail) = divides-only at to f g after ps qs rest tail (subst (λ bs. Divides bs ps rest) one.2 x) y x-stops y-stops in
     (ap (λ r. r ∷ ps) (part-is p q one.0 one.1) ∙ ap (λ rs. q ∷ rs) below.0, below.1)
 
-lexed-is : (a b : Lexed) → a.lexemes ≡ b.lexemes → a.end_line ≡ b.end_line → a ≡ b
-lexed-is a b lexemes end = ap (λ ts. record { lexemes = ts; end_line = a.end_line }) lexemes ∙ ap (λ n. record { lexemes = b.lexemes; end_line = n }) end
+lexed-is : (a b : Lexed) → a.lexemes ≡ b.lexemes → a.end ≡ b.end → a ≡ b
+lexed-is a b lexemes end = ap (λ ts. record { lexemes = ts; end = a.end }) lexemes ∙ ap (λ n. record { lexemes = b.lexemes; end = n }) end
 
 pub read-only : (text : List ℕ) (xs ys : List Lexeme) (f g : Option LexFault) → IsRead text xs f → IsRead text ys g → (xs ≡ ys) × (f ≡ g)
 read-only text xs ys f g (ps, rest, x-divides, x-is, x-stops) (qs, tail, y-divides, y-is, y-stops) =
@@ -274,7 +275,7 @@ reading-only text a b f g x y =
           both-are ((x.oversize large).0 ∙ sym (y.oversize large).0, (x.oversize large).1 ∙ sym (y.oversize large).1)
     ] refl where
       both-are : (a.lexemes ≡ b.lexemes) × (f ≡ g) → (a ≡ b) × (f ≡ g)
-      both-are same = (lexed-is a b same.0 (x.end ∙ ap (λ h. line_at text (place_of text h)) same.1 ∙ sym y.end), same.1)
+      both-are same = (lexed-is a b same.0 (x.end ∙ ap (λ h. position_at text (place_of text h)) same.1 ∙ sym y.end), same.1)
 
 -- so what was read, where it was read, is what the text is read as
 pub answer-only : {E : Type 0} (text : List ℕ) (answer : Result (Lexed × Option LexFault) E) → IfOk answer (λ read. IsReading text read.0 read.1)

@@ -7,12 +7,13 @@ use Rattle.std.proofs.lemmas.Slice.Eq.{starts_is}
 use Rattle.std.specs.Char.{is_ascii_digit}
 use Rattle.std.specs.List.{list_all, list_any, Contains, cons_option, starts_with}
 use Rattle.std.specs.Option.{option_map}
-use Rattle.cube_lex.specs.Bytes.{line_at, Begins, is_white, is_quote, starts_word, is_word_byte}
+use Rattle.cube_lex.specs.Bytes.{Begins, is_white, is_quote, starts_word, is_word_byte}
 use Rattle.cube_lex.specs.Lexed.{Lexed}
 use Rattle.cube_lex.specs.Parts.{Part, Divides, IsLongest, IsToken, IsWord, IsNumber, IsDigits, IsQuoted, Stands, signs, is_sign, most_token_bytes}
 use Rattle.cube_lex.specs.Reading.{mark_len, lexeme_at, lexemes_among, IsRead, IsReading, most_text_bytes}
 use Rattle.cube_lex.specs.Written.{Spelling, spelling_of, IsWritten, Adds, HasReading}
 use Rattle.cube_lex.specs.Fault.{place_of}
+use Rattle.cube_lex.specs.Positions.{position_at}
 use Rattle.cube_lex.specs.declared.fault.LexFault.{LexFault}
 use Rattle.cube_lex.specs.declared.token.Kind.{Kind}
 use Rattle.cube_lex.specs.declared.token.Kind.TheVariants.{Word, Number, Text, Sign}
@@ -207,7 +208,7 @@ pub written-reading : (words : List Spelling) (text : List ℕ) → IsWritten wo
 written-reading words text written small =
     let parts = written-parts words text [] written refl in
     let no_mark_is : mark_len text ≡ 0 = written-no_mark words text written in (
-      record { lexemes = lexemes_among text (mark_len text) parts.0; end_line = line_at text (place_of text None) },
+      record { lexemes = lexemes_among text (mark_len text) parts.0; end = position_at text (place_of text None) },
       record {
         oversize = λ large. absurd (omega (arith, large, small));
         within = λ _. (parts.0, [], subst (λ n. Divides (drop n text) parts.0 []) (sym no_mark_is) parts.1, refl, refl);

@@ -5,6 +5,7 @@ pub mod Fault
 pub mod Inside
 pub mod Lexeme
 pub mod Lexed
+pub mod Positions
 pub mod Listed
 pub mod Onto
 pub mod Parts

@@ -7,6 +7,7 @@ use Rattle.cube_lex.specs.Fault.{Stops, place_of}
 use Rattle.cube_lex.specs.Lexeme.{Lexeme}
 use Rattle.cube_lex.specs.Lexed.{Lexed}
 use Rattle.cube_lex.specs.Parts.{Part, Divides}
+use Rattle.cube_lex.specs.Positions.{position_at}
 use Rattle.cube_lex.specs.declared.fault.LexFault.{LexFault}
 use Rattle.cube_lex.specs.declared.fault.LexFault.TheVariants.{TooLong}
 
@@ -42,4 +43,4 @@ IsRead text tokens fault = (parts : List Part) × (rest : List ℕ)
 pub record IsReading (text : List ℕ) (lexed : Lexed) (fault : Option LexFault) : Type 0 where
   pub oversize : most_text_bytes < length text → (lexed.lexemes ≡ []) × (fault ≡ Some (TooLong most_text_bytes))
   pub within : length text ≤ most_text_bytes → IsRead text lexed.lexemes fault
-  pub end : lexed.end_line ≡ line_at text (place_of text fault)
+  pub end : lexed.end ≡ position_at text (place_of text fault)

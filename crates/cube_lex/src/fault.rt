@@ -16,6 +16,23 @@ pub enum LexFault {
     Memory,
 }
 
+impl LexFault {
+    ghost use Rattle.std.specs.Prelude.{ℕ, List, Some};
+    ghost use Rattle.cube_lex.specs.Fault.{place_of};
+
+    /// The offset of the byte at which the text can't be read on.
+    pub(crate) fn offset(&self) -> usize
+        ensures { (text : List ℕ) → result ≡ place_of text (Some self.now) }
+    {
+        match self {
+            LexFault::BadByte(offset) => *offset,
+            LexFault::OpenQuote(offset) => *offset,
+            LexFault::TooLong(offset) => *offset,
+            LexFault::Memory => 0,
+        }
+    }
+}
+
 impl From<AllocError> for LexFault {
     ghost from_gives = { λ _ e. e ≡ Memory };
 

@@ -5,6 +5,7 @@ ghost use Rattle.cube_lex.specs.declared.token.Kind.TheVariants.{Text};
 
 use crate::left::TokensLeft;
 use crate::place::Place;
+use crate::position::Position;
 use crate::quoted::unquoted;
 use crate::token::{Kind, Token};
 use std::alloc::{AllocError, Global};
@@ -15,7 +16,7 @@ use std::marker::Model;
 pub struct Tokens<'a> {
     text: &'a [u8],
     tokens: Vec<Token<'a>>,
-    end_line: u32,
+    end: Position,
 }
 
 impl<'a> Model for Tokens<'a> {
@@ -26,7 +27,7 @@ impl<'a> Model for Tokens<'a> {
 
     ghost Value = { Lexed };
 
-    ghost view = { λ t. lexed_of t.tokens.items t.end_line };
+    ghost view = { λ t. lexed_of t.tokens.items t.end };
 
     ghost invariant = { λ t. AreListed t.text.now (map lexeme_of t.tokens.items) };
 }
@@ -36,15 +37,11 @@ impl<'a> Tokens<'a> {
     ghost use Rattle.cube_lex.specs.Lexed.{lexed_of, IsWellFormed};
     ghost use Rattle.cube_lex.specs.Listed.{AreListed};
 
-    pub(crate) fn new(text: &'a [u8], tokens: Vec<Token<'a>>, end_line: u32) -> Self
+    pub(crate) fn new(text: &'a [u8], tokens: Vec<Token<'a>>, end: Position) -> Self
         requires { AreListed text.now (map lexeme_of tokens.items) }
-        ensures { result ≡ lexed_of tokens.entry.items end_line }
+        ensures { result ≡ lexed_of tokens.entry.items end }
     {
-        Tokens {
-            text,
-            tokens,
-            end_line,
-        }
+        Tokens { text, tokens, end }
     }
 
     /// How many tokens there are.
@@ -119,11 +116,11 @@ impl<'a> Tokens<'a> {
         self.tokens[i].line
     }
 
-    /// The line of the first fault, or of the text's end where there is none.
-    pub fn end_line(&self) -> u32
-        ensures { result ≡ self.now.end_line }
+    /// The place of the first fault, or of the text's end where there is none.
+    pub fn end(&self) -> Position
+        ensures { result ≡ self.now.end }
     {
-        self.end_line
+        self.end
     }
 
     /// The bytes that a quoted text means: without the outer quotes, each doubled quote being one.

@@ -9,6 +9,7 @@ use crate::fault::LexFault;
 use crate::front::front_of;
 use crate::lexed::Tokens;
 use crate::lines::{MAX_TEXT_BYTES, line_ends, mark_len};
+use crate::position::Position;
 use crate::token::Token;
 use std::alloc::{AllocError, Global};
 
@@ -23,7 +24,13 @@ fn read(alloc: Global, text: &[u8]) -> Result<(Tokens<'_>, Option<LexFault>), Al
     'parts: while !rest.is_empty() {
         let front = match front_of(rest, at) {
             Ok(front) => front,
-            Err(fault) => return Ok((Tokens::new(text, tokens, line), Some(fault))),
+            Err(fault) => {
+                let end = Position {
+                    offset: fault.offset(),
+                    line,
+                };
+                return Ok((Tokens::new(text, tokens, end), Some(fault)));
+            }
         };
         if let Some(kind) = front.kind {
             tokens.push(Token {
@@ -37,7 +44,11 @@ fn read(alloc: Global, text: &[u8]) -> Result<(Tokens<'_>, Option<LexFault>), Al
         at += front.bytes.len();
         rest = front.after;
     }
-    Ok((Tokens::new(text, tokens, line), None))
+    let end = Position {
+        offset: text.len(),
+        line,
+    };
+    Ok((Tokens::new(text, tokens, end), None))
 }
 
 /// The tokens of a text up to its first fault, and that fault, which is never `Memory`; `None` where the text has none.
@@ -54,9 +65,12 @@ pub fn tokens_until(
 {
     if text.len() > MAX_TEXT_BYTES {
         let (within, _) = text.split_at(MAX_TEXT_BYTES);
-        let end_line = 1 + line_ends(within) as u32;
+        let end = Position {
+            offset: MAX_TEXT_BYTES,
+            line: 1 + line_ends(within) as u32,
+        };
         let fault = LexFault::TooLong(MAX_TEXT_BYTES);
-        return Ok((Tokens::new(&[], Vec::new(alloc), end_line), Some(fault)));
+        return Ok((Tokens::new(&[], Vec::new(alloc), end), Some(fault)));
     }
     read(alloc, text)
 }

@@ -9,14 +9,15 @@ use crate::front::front_of;
 use crate::left::TokensLeft;
 use crate::lines::{MAX_TEXT_BYTES, line_ends, mark_len};
 use crate::place::Place;
+use crate::position::Position;
 
 /// What a whole text is read as.
 #[derive(Drop)]
 pub struct TextTokens<'a> {
     /// Its tokens up to its first fault.
     pub left: TokensLeft<'a>,
-    /// The line of the first fault, or of the text's end where there is none.
-    pub end_line: u32,
+    /// The place of the first fault, or of the text's end where there is none.
+    pub end: Position,
     /// Its first fault, if it has one.
     pub fault: Option<LexFault>,
 }
@@ -25,7 +26,7 @@ pub struct TextTokens<'a> {
 #[derive(Clone, Copy)]
 struct TokenCount {
     tokens: usize,
-    end_line: u32,
+    end: Position,
     fault: Option<LexFault>,
 }
 
@@ -43,7 +44,10 @@ fn counted(text: &[u8]) -> TokenCount
             Err(fault) => {
                 return TokenCount {
                     tokens,
-                    end_line: line,
+                    end: Position {
+                        offset: fault.offset(),
+                        line,
+                    },
                     fault: Some(fault),
                 };
             }
@@ -57,7 +61,10 @@ fn counted(text: &[u8]) -> TokenCount
     }
     TokenCount {
         tokens,
-        end_line: line,
+        end: Position {
+            offset: text.len(),
+            line,
+        },
         fault: None,
     }
 }
@@ -65,17 +72,20 @@ fn counted(text: &[u8]) -> TokenCount
 /// The tokens of a text up to its first fault, and that fault, which is never `Memory`. It takes no memory.
 /// Of a text of more than 2^30 bytes nothing is read.
 pub fn text_tokens(text: &[u8]) -> TextTokens<'_>
-    ensures found { IsReading text.now (record { lexemes = result.left; end_line = result.end_line }) result.fault }
+    ensures found { IsReading text.now (record { lexemes = result.left; end = result.end }) result.fault }
     ensures well_formed { All IsWellFormed result.left }
     // A text is read as one thing only, so this is it.
     ensures only { (lexed : Lexed) (fault : Option LexFault) → IsReading text.now lexed fault
-        → ((record { lexemes = result.left; end_line = result.end_line }) ≡ lexed) × (result.fault ≡ fault) }
+        → ((record { lexemes = result.left; end = result.end }) ≡ lexed) × (result.fault ≡ fault) }
 {
     if text.len() > MAX_TEXT_BYTES {
         let (within, _) = text.split_at(MAX_TEXT_BYTES);
         return TextTokens {
             left: TokensLeft::new(Place::end()),
-            end_line: 1 + line_ends(within) as u32,
+            end: Position {
+                offset: MAX_TEXT_BYTES,
+                line: 1 + line_ends(within) as u32,
+            },
             fault: Some(LexFault::TooLong(MAX_TEXT_BYTES)),
         };
     }
@@ -83,7 +93,7 @@ pub fn text_tokens(text: &[u8]) -> TextTokens<'_>
     let place = Place::new(text, mark_len(text), 1, counted.tokens);
     TextTokens {
         left: TokensLeft::new(place),
-        end_line: counted.end_line,
+        end: counted.end,
         fault: counted.fault,
     }
 }

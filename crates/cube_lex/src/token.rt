@@ -1,3 +1,5 @@
+use crate::position::Position;
+
 /// The kind of a token.
 #[derive(Clone, Copy, Debug, Eq, PartialEq)]
 pub enum Kind {
@@ -21,4 +23,20 @@ pub struct Token<'a> {
     pub start: usize,
     /// The line of its first byte, from 1. Only LF ends a line.
     pub line: u32,
+}
+
+impl<'a> Token<'a> {
+    ghost use Rattle.std.specs.Prelude.{◌≡◌};
+    ghost use Rattle.cube_lex.specs.Lexeme.{lexeme_of};
+    ghost use Rattle.cube_lex.specs.Positions.{position_of};
+
+    /// Where it stands: the place of its first byte.
+    pub fn position(&self) -> Position
+        ensures { result ≡ position_of (lexeme_of self.now) }
+    {
+        Position {
+            offset: self.start,
+            line: self.line,
+        }
+    }
 }

@@ -84,7 +84,7 @@ Allows-result (Err e) words o first readings halt missed none came same is = tt
 -- a run that was served ends as it is to
 pub Allows-done : {E : Type 0} (result : Result Answer E) (words : List (List ℕ)) (o : Outside) (first readings : Readings) (job : RunJob)
     → first ≡ [] → Comes (run_of words) o first readings (Ok job)
-    → IfOk result (λ answer. answer.status ≡ Done) → IfOk result (λ answer. IsOutput job (joined answer.pieces.items))
+    → IfOk result (λ answer. answer.status ≡ Done) → IfOk result (λ answer. IsOutput readings job (joined answer.pieces.items))
     → IfOk result (λ answer. Allows words o answer.status (joined answer.pieces.items))
 Allows-done (Ok answer) words o first readings job none began is_done output =
     let came = subst (λ l. Comes (run_of words) o l readings (Ok job)) none began in

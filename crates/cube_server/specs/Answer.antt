@@ -28,6 +28,9 @@ use Rattle.rule_model.specs.BoundModel.{BoundModel}
 use Rattle.user_session.specs.declared.command.PlanCommand.{PlanCommand}
 use Rattle.cube_server.specs.Sample.{IsSummary}
 use Rattle.cube_words.specs.Words.{Plan, IsPlan, IsExplain, texts_of}
+use Rattle.explained_model.specs.Late.{AreLateLines}
+use Rattle.explained_model.specs.Unfed.{AreUnfedLines}
+use Rattle.note_lines.specs.Notes.{AreNotes}
 use Rattle.explanation.specs.Explanation.{IsExplanation}
 
 -- The model is an accepted one, and the text is what the users were told, and the one history. Each user begins without
@@ -40,13 +43,22 @@ pub record IsServed (model : BoundModel) (users : List (List (Act PlanCommand)))
   pub history : IsLayeredHistoryOf answer after (opening model) None users told log
   pub is_text : text ≡ output told log
 
--- the text of each job: of users, that the model is accepted, the feeders that are found, or the sample's summary
-abbrev pub IsOutput : RunJob → List ℕ → Type 0
-IsOutput (Serve model users) text = IsServed model users text
-IsOutput (Check model) text = IsAccepted model × (text ≡ accepted_text model)
-IsOutput (Explain model) text = IsAccepted model × (text ≡ accepted_text model)
-IsOutput (Feeders bound) text = IsFoundText bound.model bound.asking text
-IsOutput (Sample size) text = IsSummary size text
+-- the model is accepted, and notes follow, by the texts of the model file and the rule files of these names
+pub record IsNoted
+    (readings : Readings) (model : BoundModel) (file : List ℕ) (files : List (List ℕ)) (text : List ℕ) : Type 0 where
+  pub accepted : IsAccepted model
+  pub notes : List ℕ
+  pub are : AreNotes readings file files model notes
+  pub is_text : text ≡ accepted_text model ++ notes
+
+-- the text of each job over the files that were read: of users, that the model is accepted, with notes or without, the
+-- feeders that are found, or the sample's summary
+abbrev pub IsOutput : Readings → RunJob → List ℕ → Type 0
+IsOutput readings (Serve model users) text = IsServed model users text
+IsOutput readings (Check model) text = IsAccepted model × (text ≡ accepted_text model)
+IsOutput readings (Explain model file files) text = IsNoted readings model file files text
+IsOutput readings (Feeders bound) text = IsFoundText bound.model bound.asking text
+IsOutput readings (Sample size) text = IsSummary size text
 
 -- just the files that were read were asked for, each once, in this order, and then these
 abbrev pub AsksJust : Outside → Readings → List (List ℕ) → Type 0
@@ -67,7 +79,7 @@ pub record IsDone (words : List (List ℕ)) (o : Outside) (text : List ℕ) : Ty
   pub accepted : (run_of words).finds readings job
   pub no_read_failed : o.after ≡ o.before
   pub asked : AsksJust o readings []
-  pub output : IsOutput job text
+  pub output : IsOutput readings job text
 
 -- the words aren't in the grammar
 abbrev pub HasNoPlan : List (List ℕ) → Type 0
@@ -80,16 +92,27 @@ pub record IsUsage (words : List (List ℕ)) (o : Outside) (text : List ℕ) : T
   pub asked : AsksJust o [] []
   pub is_text : text ≡ usage_text
 
--- the words ask to explain a refusal
-abbrev pub AskToExplain : List (List ℕ) → Type 0
-AskToExplain words = (model : List ℕ) × (users : List (List ℕ)) × IsExplain words model users
+-- the words ask to explain a refusal of this model
+abbrev pub AskToExplain : List (List ℕ) → List ℕ → Type 0
+AskToExplain words model = (users : List (List ℕ)) × IsExplain words model users
+
+-- the lines that explain a refusal: what its file has there, of a reference that comes late an example, and of an
+-- operand that isn't fed what would cover it
+pub record IsExplained (readings : Readings) (model : List ℕ) (refusal : Refusal) (text : List ℕ) : Type 0 where
+  pub place : List ℕ
+  pub is_place : IsExplanation readings refusal place
+  pub late : List ℕ
+  pub is_late : AreLateLines model readings refusal.cause late
+  pub unfed : List ℕ
+  pub is_unfed : AreUnfedLines model readings refusal.cause unfed
+  pub is_text : text ≡ (place ++ late) ++ unfed
 
 -- a line says what is refused; lines that explain it follow exactly where the words ask for them
 abbrev pub IsRefusalText : List (List ℕ) → Readings → Refusal → List ℕ → Type 0
 IsRefusalText words readings refusal text =
-    ((¬ AskToExplain words) × (text ≡ refused_text refusal))
-    ⊎ (AskToExplain words
-    × ((lines : List ℕ) × IsExplanation readings refusal lines × (text ≡ refused_text refusal ++ lines)))
+    (((model : List ℕ) → ¬ AskToExplain words model) × (text ≡ refused_text refusal))
+    ⊎ ((model : List ℕ) × AskToExplain words model
+    × ((lines : List ℕ) × IsExplained readings model refusal lines × (text ≡ refused_text refusal ++ lines)))
 
 -- after the files that were read the run refuses one of them
 pub record IsRefused (words : List (List ℕ)) (o : Outside) (text : List ℕ) : Type 0 where

@@ -1,11 +1,10 @@
 -- What the laws of this crate say.
 use Rattle.std.specs.Prelude.{◌≡◌, ℕ, List, [], ◌∷◌}
 use Rattle.cube_fixed.specs.declared.value.Value.{Value}
-use Rattle.cube_server.specs.Answer.{IsOutput, IsServed}
+use Rattle.cube_server.specs.Answer.{IsServed}
 use Rattle.rule_laws.specs.RuleSystem.{RuleSystem, Stored, IsCell, SolvesRules, dense_value}
 use Rattle.rule_model.specs.BoundModel.{BoundModel}
 use Rattle.rule_model.specs.System.{system_of}
-use Rattle.run_passes.specs.declared.run_job.RunJob.TheVariants.{Serve}
 use Rattle.sandbox.specs.declared.act.Act.{Act}
 use Rattle.user_session.specs.declared.command.PlanCommand.{PlanCommand}
 
@@ -13,7 +12,7 @@ use Rattle.user_session.specs.declared.command.PlanCommand.{PlanCommand}
 abbrev pub OneUserHasOneOutput : Type 0
 OneUserHasOneOutput =
     (model : BoundModel) (commands : List (Act PlanCommand)) (text other : List ℕ)
-    → IsOutput (Serve model (commands ∷ [])) text → IsOutput (Serve model (commands ∷ [])) other → text ≡ other
+    → IsServed model (commands ∷ []) text → IsServed model (commands ∷ []) other → text ≡ other
 
 -- these values solve the rule equations over what is stored, and no others do
 pub record IsOnlySolution (w : RuleSystem) (stored : Stored) (value : ℕ → Value) : Type 0 where

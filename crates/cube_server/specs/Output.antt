@@ -8,7 +8,7 @@ use Rattle.cube_lex.specs.Quoted.{quoted}
 use Rattle.file_passes.specs.declared.refusal.Cause.{Cause}
 use Rattle.file_passes.specs.declared.refusal.Cause.TheVariants as causes
 use Rattle.file_passes.specs.declared.refusal.FilePlace.{FilePlace}
-use Rattle.file_passes.specs.declared.refusal.FilePlace.TheVariants.{Line, Statement, Feeder}
+use Rattle.file_passes.specs.declared.refusal.FilePlace.TheVariants.{Text, Statement, Feeder}
 use Rattle.file_passes.specs.declared.refusal.Refusal.{Refusal}
 
 -- the end of a line
@@ -94,7 +94,7 @@ cause_text causes.UnknownScript = codes "UnknownScript"
 
 -- `line L`, `statement S` or `feeder S`
 abbrev pub place_text : FilePlace → List ℕ
-place_text (Line line) = codes "line " ++ decimal line
+place_text (Text place) = codes "line " ++ decimal place.line
 place_text (Statement statement) = codes "statement " ++ decimal statement
 place_text (Feeder feeder) = codes "feeder " ++ decimal feeder
 

@@ -1,6 +1,6 @@
 ghost use Rattle.std.specs.Prelude.{◌≡◌, IfOk, OnErr};
 ghost use Rattle.accepted.specs.Checks.{IsAccepted};
-ghost use Rattle.cube_server.specs.Answer.{IsOutput, IsServed, Allows, AsksInTurn};
+ghost use Rattle.cube_server.specs.Answer.{IsNoted, IsOutput, IsServed, Allows, AsksInTurn};
 ghost use Rattle.cube_server.specs.Inside.Ending.{Answers, joined};
 ghost use Rattle.file_passes.specs.Outside.{outside};
 ghost use Rattle.model_counts.specs.Counts.{accepted_text};
@@ -19,6 +19,7 @@ use file_passes::{Halt, Readings};
 use history::Told;
 use lists::ListOf;
 use model_counts::accepted_text;
+use note_lines::note_lines;
 use run_passes::{RunJob, run_passes};
 use sandbox::Act;
 use std::alloc::{AllocError, Global};
@@ -47,11 +48,7 @@ pub(crate) fn answer_of<R: Threads + Wait + Sync, F: Files, G: Gate + Sync>(
 {
     let mut readings = Readings::new(alloc);
     match run_passes(alloc, words, files, &mut readings) {
-        Ok(job) => {
-            // what was read isn't held while the users run
-            drop(readings);
-            done(rt, alloc, gate, job)
-        }
+        Ok(job) => done(rt, alloc, gate, readings, job),
         Err(halt) => halted(alloc, words, &readings, files.missed(), halt),
     }
 }
@@ -61,15 +58,22 @@ fn done<R: Threads + Wait + Sync, G: Gate + Sync>(
     rt: &R,
     alloc: Global,
     gate: &G,
+    readings: Readings,
     job: RunJob,
 ) -> Result<Answer, AllocError>
     ensures status { IfOk result (λ answer. answer.status ≡ Status.Done) }
-    ensures text { IfOk result (λ answer. IsOutput job (joined answer.pieces.items)) }
+    ensures text { IfOk result (λ answer. IsOutput readings job (joined answer.pieces.items)) }
 {
     match job {
-        RunJob::Serve(model, users) => served(rt, alloc, gate, model, users),
+        RunJob::Serve(model, users) => {
+            // what was read isn't held while the users run
+            drop(readings);
+            served(rt, alloc, gate, model, users)
+        }
         RunJob::Check(model) => accepted(alloc, &model),
-        RunJob::Explain(model) => accepted(alloc, &model),
+        RunJob::Explain(model, file, files) => {
+            noted(alloc, &readings, &model, file.as_slice(), files.as_slice())
+        }
         RunJob::Feeders(bound) => one_piece(
             alloc,
             Status::Done,
@@ -86,6 +90,23 @@ fn accepted(alloc: Global, model: &Accepted) -> Result<Answer, AllocError>
         × (joined answer.pieces.items ≡ accepted_text model.now)) }
 {
     one_piece(alloc, Status::Done, accepted_text(alloc, model.model())?)
+}
+
+// Says that the model is accepted, and what in its file and in the rule files of these names is hardly ever meant.
+fn noted(
+    alloc: Global,
+    readings: &Readings,
+    model: &Accepted,
+    file: &[u8],
+    files: &[ListOf<u8>],
+) -> Result<Answer, AllocError>
+    ensures status { IfOk result (λ answer. answer.status ≡ Status.Done) }
+    ensures text { IfOk result (λ answer.
+        IsNoted readings.now model.now file.now files.now (joined answer.pieces.items)) }
+{
+    let mut text = accepted_text(alloc, model.model())?;
+    text.extend_from_slice(&note_lines(alloc, readings, file, files, model.model())?)?;
+    one_piece(alloc, Status::Done, text)
 }
 
 // Runs the users.

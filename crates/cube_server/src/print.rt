@@ -98,7 +98,10 @@ fn place_name(alloc: Global, at: FilePlace) -> Result<String, AllocError>
     ensures { IfOk result (λ text. string_bytes text ≡ place_text at) }
 {
     match at {
-        FilePlace::Line(line) => format!(in alloc; "line {line}"),
+        FilePlace::Text(place) => {
+            let line = place.line;
+            format!(in alloc; "line {line}")
+        }
         FilePlace::Statement(statement) => format!(in alloc; "statement {statement}"),
         FilePlace::Feeder(feeder) => format!(in alloc; "feeder {feeder}"),
     }

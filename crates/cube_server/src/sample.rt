@@ -55,7 +55,7 @@ fn sample_run(
     match run_passes(alloc, &words, &mut files, &mut readings) {
         Ok(RunJob::Serve(model, users)) => Ok((model, users)),
         // a sample is accepted, which cases show
-        Ok(RunJob::Check(_) | RunJob::Explain(_) | RunJob::Feeders(_) | RunJob::Sample(_))
+        Ok(RunJob::Check(_) | RunJob::Explain(_, _, _) | RunJob::Feeders(_) | RunJob::Sample(_))
         | Err(_) => Err(AllocError),
     }
 }

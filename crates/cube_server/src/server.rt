@@ -15,15 +15,14 @@ use std::sync::Wait;
 use std::thread::Threads;
 
 /// Does what the words ask for: runs users on a model, and writes what they were told and the history; or tells that a
-/// model is accepted; or prints the feeders that are found for it; or runs a generated sample, and sums up what it
-/// leaves.
+/// model is accepted, with lines that explain a refusal where they are asked for; or prints the feeders that are found
+/// for it; or runs a generated sample, and sums up what it leaves.
 ///
 /// The words are those after the program's own name: a model file and 1 to 16 user files, or `--check` or `--feeders`
-/// and a model file, or `--sample` and its records. The model is read and judged first; then the files of its cubes'
-/// rules, its scripts, all user files and the files of their loads, each kind read in order and then judged in order. A
-/// name that was read isn't read again. A sample's files are made, and none is asked for. Until then nothing waits for
-/// a thread:
-/// it is the call of [`run_passes::run_passes`].
+/// and a model file, or `--explain`, a model file and up to 16 user files, or `--sample` and its records. The model is
+/// read and judged first; then the files of its cubes' rules, its scripts, all user files and the files of their loads,
+/// each kind read in order and then judged in order. A name that was read isn't read again. A sample's files are made,
+/// and none is asked for. Until then nothing waits for a thread: it is the call of [`run_passes::run_passes`].
 ///
 /// Each user runs on a thread of its own and passes the gate at the parts of its commands; where a thread can't be
 /// started, users run one after another. Nothing is written before all users are done; then each user's text is one

@@ -1,6 +1,7 @@
 -- Deployment has one answer.
 use Rattle.std.proofs.Common.{ℕ, Bool, true, false, Option, Some, None, List}
 use Rattle.std.specs.Prelude.{slice_index_or}
+use Rattle.cube_lex.specs.declared.position.Position.{Position}
 use Rattle.cube_space.specs.Layout.{Layout}
 use Rattle.model_text.specs.Contents.{Contents}
 use Rattle.model_text.specs.declared.order.OrderLine.{OrderLine}
@@ -9,7 +10,7 @@ use Rattle.rule_bind.specs.Rules.{rules_of}
 use Rattle.rule_model.specs.BoundModel.{BoundModel}
 use Rattle.rule_model.specs.declared.rules.CubeRules.{CubeRules}
 use Rattle.model_bind.specs.Files.{RuleFile}
-use Rattle.model_bind.specs.Foundation.{layout_of, cube_lines, order_lines, dimensions_refusal, space_refusal, products_refusal}
+use Rattle.model_bind.specs.Foundation.{layout_of, cube_places, order_lines, dimensions_refusal, space_refusal, products_refusal}
 use Rattle.model_bind.specs.Rules.{file_name, meant_in, in_order, is_automatic, line_order, by_line, text_stage, meaning_stage, order_stage, asking}
 use Rattle.model_bind.specs.Binding.{ranked_stage, model_of, binding}
 use Rattle.model_bind.specs.declared.bound.Bound.{Bound}
@@ -24,11 +25,11 @@ use Rattle.deploy_laws.proofs.Ranked.{single-find}
 single-meaning : (space : Layout) (files : List (Option RuleFile)) (cube : ℕ) (text : RuleText) → HasOneAnswer (meaning_stage space files cube text)
 single-meaning space files cube text = single-meant (meant_in (file_name files cube) (rules_of space cube text))
 
-single-line : (automatic : Bool) (space : Layout) (cube : ℕ) (rules : CubeRules) (line : Option (ℕ × OrderLine)) → HasOneAnswer (by_line automatic space cube rules line)
+single-line : (automatic : Bool) (space : Layout) (cube : ℕ) (rules : CubeRules) (line : Option (Position × OrderLine)) → HasOneAnswer (by_line automatic space cube rules line)
 single-line automatic space cube rules None = single-found rules
 single-line automatic space cube rules (Some line) = single-meant (in_order rules line.0 (line_order automatic space cube line.1))
 
-single-order : (space : Layout) (lines : List (Option (ℕ × OrderLine))) (cube : ℕ) (rules : CubeRules) → HasOneAnswer (order_stage space lines cube rules)
+single-order : (space : Layout) (lines : List (Option (Position × OrderLine))) (cube : ℕ) (rules : CubeRules) → HasOneAnswer (order_stage space lines cube rules)
 single-order space lines cube rules = single-line (is_automatic lines) space cube rules (slice_index_or lines cube None)
 
 single-ranked : (automatic : Bool) (files : List (Option RuleFile)) (model : BoundModel) → HasOneAnswer (ranked_stage automatic files model)
@@ -65,13 +66,13 @@ module _ (contents : Contents) (files : List (Option RuleFile)) where
   texts-next _ = reading >>= meanings-next
 
   abbrev products : Stage (Unit {0})
-  products = unless (products_refusal (cube_lines contents.cubes) (layout_of contents))
+  products = unless (products_refusal (cube_places contents.cubes) (layout_of contents))
 
   abbrev products-next : Unit {0} → Stage Bound
   products-next _ = products >>= texts-next
 
   abbrev cells : Stage (Unit {0})
-  cells = unless (space_refusal (cube_lines contents.cubes) (layout_of contents))
+  cells = unless (space_refusal (cube_places contents.cubes) (layout_of contents))
 
   abbrev cells-next : Unit {0} → Stage Bound
   cells-next _ = cells >>= products-next
@@ -93,8 +94,8 @@ module _ (contents : Contents) (files : List (Option RuleFile)) where
   unfolding binding
   single-binding =
       single-then (unless (dimensions_refusal contents.dims)) cells-next (single-unless (dimensions_refusal contents.dims))
-      (λ _. single-then cells products-next (single-unless (space_refusal (cube_lines contents.cubes) (layout_of contents)))
-      (λ _. single-then products texts-next (single-unless (products_refusal (cube_lines contents.cubes) (layout_of contents))) (λ _. single-rules)))
+      (λ _. single-then cells products-next (single-unless (space_refusal (cube_places contents.cubes) (layout_of contents)))
+      (λ _. single-then products texts-next (single-unless (products_refusal (cube_places contents.cubes) (layout_of contents))) (λ _. single-rules)))
 
   -- what comes after each check
   abbrev accepts : BoundModel → Unit {0} → Stage BoundModel

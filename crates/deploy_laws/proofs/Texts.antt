@@ -17,15 +17,15 @@ module _ (name bytes : List ℕ) where
   IsFor fault told = Answers bytes (Err fault) × (text_refusal name fault ≡ Some told)
 
   one-fault : (a b : RuleFault) (e f : DeployFault) → IsFor a e → IsFor b f → a ≡ b
-  one-fault (faults.Syntax k) (faults.Syntax l) e f h g = ap (λ n. faults.Syntax n) (rule_texts.one_line bytes k l h.0 g.0)
+  one-fault (faults.Syntax k) (faults.Syntax l) e f h g = ap (λ n. faults.Syntax n) (rule_texts.one_place bytes k l h.0 g.0)
   one-fault (faults.Syntax k) (faults.TooDeep l) e f h g = absurd (rule_texts.one_fault bytes k (excesses.TooDeep l) h.0 g.0)
   one-fault (faults.Syntax k) (faults.TooMany l) e f h g = absurd (rule_texts.one_fault bytes k (excesses.TooMany l) h.0 g.0)
   one-fault (faults.TooDeep k) (faults.Syntax l) e f h g = absurd (rule_texts.one_fault bytes l (excesses.TooDeep k) g.0 h.0)
   one-fault (faults.TooMany k) (faults.Syntax l) e f h g = absurd (rule_texts.one_fault bytes l (excesses.TooMany k) g.0 h.0)
   one-fault (faults.TooDeep k) (faults.TooDeep l) e f h g =
       let same : excesses.TooDeep k ≡ excesses.TooDeep l = rule_texts.one_cause bytes (excesses.TooDeep k) (excesses.TooDeep l) h.0 g.0 in
-      let line : k ≡ l = cc in
-      ap (λ n. faults.TooDeep n) line
+      let place : k ≡ l = cc in
+      ap (λ n. faults.TooDeep n) place
   one-fault (faults.TooDeep k) (faults.TooMany l) e f h g =
       let clash : excesses.TooDeep k ≡ excesses.TooMany l = rule_texts.one_cause bytes (excesses.TooDeep k) (excesses.TooMany l) h.0 g.0 in
       absurd (cc)
@@ -34,8 +34,8 @@ module _ (name bytes : List ℕ) where
       absurd (cc)
   one-fault (faults.TooMany k) (faults.TooMany l) e f h g =
       let same : excesses.TooMany k ≡ excesses.TooMany l = rule_texts.one_cause bytes (excesses.TooMany k) (excesses.TooMany l) h.0 g.0 in
-      let line : k ≡ l = cc in
-      ap (λ n. faults.TooMany n) line
+      let place : k ≡ l = cc in
+      ap (λ n. faults.TooMany n) place
   one-fault faults.Memory b e f h g = let clash : None ≡ Some e = h.1 in absurd (cc)
   one-fault (faults.Syntax k) faults.Memory e f h g = let clash : None ≡ Some f = g.1 in absurd (cc)
   one-fault (faults.TooDeep k) faults.Memory e f h g = let clash : None ≡ Some f = g.1 in absurd (cc)

@@ -1,7 +1,9 @@
 -- From what the reader of a block gives to what is answered.
 use Rattle.std.proofs.Common.{◌≡◌, ◌≤◌, ℕ, ◌-◌, ◌+◌, List, ◌∷◌, ◌++◌, length, drop, Ok, Err, codes, true, sym, ◌∙◌, ap, subst, arith, length-append, length-drop}
 use Rattle.cube_lex.specs.Lexeme.{Lexeme}
-use Rattle.grammar.specs.Fault.{line_at, IsSyntax, IsRefused}
+use Rattle.cube_lex.specs.Positions.{position_of}
+use Rattle.cube_lex.specs.declared.position.Position.{Position}
+use Rattle.grammar.specs.Fault.{place_at, IsSyntax, IsRefused}
 use Rattle.grammar.specs.Reading.{Unexpected, Refused}
 use Rattle.grammar.specs.Tokens.{is_word}
 use Rattle.grammar.specs.declared.stop.Stop.{Stop}
@@ -49,14 +51,14 @@ no_block ts n stuck block rest parts is =
     let agreed : Agrees {R = Progress} {C = Refusal} tt rest (read_block nothing (block ++ rest)) = block_exact.complete nothing block tt rest is tt in
     subst (Agrees {R = Progress} {C = Refusal} tt rest) (ap (read_block nothing) (sym parts) ∙ stuck) agreed
 
-pub fault_told : (ts : List Lexeme) (given left : List Lexeme) (end_line : ℕ) (stop : Stop Refusal) (fault : DimTextFault) → given ≡ ts → GivesText (Err stop) left (read_block nothing given) → Explains given end_line stop fault → IsFault ts end_line fault.line fault.cause
-fault_told ts given left end_line stops.Memory fault same read told = subst (IsFault ts end_line fault.line) (sym told.1) told.0
-fault_told ts given left end_line (stops.Unexpected n) fault same read told =
+pub fault_told : (ts : List Lexeme) (given left : List Lexeme) (end : Position) (stop : Stop Refusal) (fault : DimTextFault) → given ≡ ts → GivesText (Err stop) left (read_block nothing given) → Explains given end stop fault → IsFault ts end fault.at fault.cause
+fault_told ts given left end stops.Memory fault same read told = subst (IsFault ts end fault.at) (sym told.1) told.0
+fault_told ts given left end (stops.Unexpected n) fault same read told =
     let stuck : read_block nothing ts ≡ Err (Unexpected n) = subst (λ x. read_block nothing x ≡ Err (Unexpected n)) same read in
-    let is : IsSyntax (λ t. t.line) dimension building nothing ts end_line (line_at (λ t. t.line) end_line (drop (length ts - n) ts)) = stuck_told block_exact tt (λ t. t.line) end_line nothing ts n stuck in
-    let place : fault.line ≡ line_at (λ t. t.line) end_line (drop (length ts - n) ts) = told.0 ∙ ap (λ x. line_at (λ t. t.line) end_line (drop (length x - n) x)) same in
-    subst (IsFault ts end_line fault.line) (sym told.1) (no_block ts n stuck, subst (IsSyntax (λ t. t.line) dimension building nothing ts end_line) (sym place) is)
-fault_told ts given left end_line (stops.Refused refusal) fault same read told =
+    let is : IsSyntax position_of dimension building nothing ts end (place_at position_of end (drop (length ts - n) ts)) = stuck_told block_exact tt position_of end nothing ts n stuck in
+    let place : fault.at ≡ place_at position_of end (drop (length ts - n) ts) = told.0 ∙ ap (λ x. place_at position_of end (drop (length x - n) x)) same in
+    subst (IsFault ts end fault.at) (sym told.1) (no_block ts n stuck, subst (IsSyntax position_of dimension building nothing ts end) (sym place) is)
+fault_told ts given left end (stops.Refused refusal) fault same read told =
     let is : IsRefused dimension building nothing ts refusal = refused_told block_exact nothing ts refusal (subst (λ x. read_block nothing x ≡ Err (Refused refusal)) same read) in
-    let place : refusal ≡ record { line = fault.line; fault = refusal.fault } = ap (λ n. record { line = n; fault = refusal.fault }) (sym told.0) in
-    subst (IsFault ts end_line fault.line) (sym told.1) (subst (IsRefused dimension building nothing ts) place is)
+    let place : refusal ≡ record { at = fault.at; fault = refusal.fault } = ap (λ n. record { at = n; fault = refusal.fault }) (sym told.0) in
+    subst (IsFault ts end fault.at) (sym told.1) (subst (IsRefused dimension building nothing ts) place is)

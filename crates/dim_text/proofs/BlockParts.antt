@@ -1,6 +1,7 @@
 -- A block that is read part by part.
 use Rattle.std.proofs.Common.{◌≡◌, ℕ, List, Ok, Err, Result, refl, sym, ap, ◌∙◌, subst}
 use Rattle.cube_lex.specs.Lexeme.{Lexeme}
+use Rattle.cube_lex.specs.declared.position.Position.{Position}
 use Rattle.grammar.specs.Reading.{bound, both_of, gives, Read}
 use Rattle.grammar.specs.declared.cursor.Unwatched.{Unwatched}
 use Rattle.grammar.specs.declared.stop.Stop.{Stop}
@@ -28,10 +29,10 @@ body_parts result start partial ts mid last left elements ending closing =
     subst (GivesText result left) (sym chain) (gives_text result partial left (read_closing partial last) closing)
 
 -- the head, and what stands behind it
-pub block_parts : (result : Result Text (Stop Refusal)) (line : ℕ) (shown : List ℕ) (state : Unwatched) (ts mid left : List Lexeme) → read_head (record {}) ts ≡ Ok (Head line shown, state, mid)
-    → GivesText result left (read_body (opened line shown) mid) → GivesText result left (read_block nothing ts)
+pub block_parts : (result : Result Text (Stop Refusal)) (at : Position) (shown : List ℕ) (state : Unwatched) (ts mid left : List Lexeme) → read_head (record {}) ts ≡ Ok (Head at shown, state, mid)
+    → GivesText result left (read_body (opened at shown) mid) → GivesText result left (read_block nothing ts)
 unfolding read_block read_opening
-block_parts result line shown state ts mid left head body =
-    let opening : read_opening nothing ts ≡ Ok (tt, opened line shown, mid) = ap (λ r. bound r (λ _. gives tt)) (checked_ok {U = Unwatched} (record {}) add read_head nothing head refl) in
-    let chain : read_block nothing ts ≡ read_body (opened line shown) mid = ap (λ r. bound r (λ _. read_body)) opening in
+block_parts result at shown state ts mid left head body =
+    let opening : read_opening nothing ts ≡ Ok (tt, opened at shown, mid) = ap (λ r. bound r (λ _. gives tt)) (checked_ok {U = Unwatched} (record {}) add read_head nothing head refl) in
+    let chain : read_block nothing ts ≡ read_body (opened at shown) mid = ap (λ r. bound r (λ _. read_body)) opening in
     subst (GivesText result left) (sym chain) body

@@ -2,6 +2,7 @@
 use Rattle.std.proofs.Common.{◌≡◌, ℕ, List, map}
 use Rattle.cube_lex.specs.Lexeme.{Lexeme}
 use Rattle.cube_lex.specs.Written.{Spelling, spelling_of}
+use Rattle.cube_lex.specs.declared.position.Position.{Position}
 use Rattle.dim_core.specs.Draft.{IsFinished}
 use Rattle.dim_core.specs.Outline.{Outline}
 use Rattle.grammar.specs.Fault.{IsText}
@@ -21,6 +22,6 @@ pub record Builds (G : Grammar Lexeme (Unit {0})) (start : Progress) (d : Outlin
 abbrev pub IsBlockOf : Outline → List Spelling → Type 0
 IsBlockOf d tokens = (ts : List Lexeme) → map spelling_of ts ≡ tokens → Builds dimension nothing d ts
 
--- these tokens, wherever they stand, are what stands behind the head, on any line, of a block that builds the dimension
+-- these tokens, wherever they stand, are what stands behind the head, at any place, of a block that builds the dimension
 abbrev pub IsBodyOf : Outline → List Spelling → Type 0
-IsBodyOf d tokens = (line : ℕ) (ts : List Lexeme) → map spelling_of ts ≡ tokens → Builds body (opened line d.name) d ts
+IsBodyOf d tokens = (at : Position) (ts : List Lexeme) → map spelling_of ts ≡ tokens → Builds body (opened at d.name) d ts

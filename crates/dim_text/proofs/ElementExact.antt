@@ -22,7 +22,7 @@ free = unwatched
 
 pub head_exact : Exact free head head read_head Always
 unfolding read_head
-head_exact = exact_then (exact_word unscanned (codes "DIM")) (λ line. exact_then (exact_name unscanned) (λ shown. exact_then (exact_sign unscanned (codes ";")) (λ _. exact_gives free (Head line shown))))
+head_exact = exact_then (exact_word unscanned (codes "DIM")) (λ at. exact_then (exact_name unscanned) (λ shown. exact_then (exact_sign unscanned (codes ";")) (λ _. exact_gives free (Head at shown))))
 
 weight_exact : Exact free weight weight read_weight (Not (is_sign (codes "*")))
 unfolding read_weight
@@ -57,7 +57,7 @@ parts_exact = exact_choose {S = BehindList (is_sign (codes "*"))} {S' = Always} 
 
 leaf_exact : Exact free leaf leaf read_leaf Always
 unfolding read_leaf
-leaf_exact = exact_then (exact_word unscanned (codes "N")) (λ line. exact_then (exact_name unscanned) (λ shown. exact_then (exact_sign unscanned (codes ";")) (λ _. exact_gives free (Leaf line shown))))
+leaf_exact = exact_then (exact_word unscanned (codes "N")) (λ at. exact_then (exact_name unscanned) (λ shown. exact_then (exact_sign unscanned (codes ";")) (λ _. exact_gives free (Leaf at shown))))
 
 -- `;` at the end of a statement
 abbrev closed : Statement → Grammar Lexeme Statement
@@ -68,18 +68,18 @@ closed_begins x b = begins_both (sign_begins (codes ";") b)
 
 consolidated_exact : Exact free consolidated consolidated read_consolidated Always
 unfolding read_consolidated
-consolidated_exact = exact_then (exact_word unscanned (codes "C")) (λ line. exact_then (exact_name unscanned) (λ shown. exact_both parts_exact
-    (λ components. exact_then (exact_sign unscanned (codes ";")) (λ _. exact_gives free (Consolidated line shown components)))
+consolidated_exact = exact_then (exact_word unscanned (codes "C")) (λ at. exact_then (exact_name unscanned) (λ shown. exact_both parts_exact
+    (λ components. exact_then (exact_sign unscanned (codes ";")) (λ _. exact_gives free (Consolidated at shown components)))
     (λ components v b rest l _. record {
-      colon = starts_text (closed_begins (Consolidated line shown components) (codes ":")) v b rest l;
-      parts = behind_list (codes ";") (done (Consolidated line shown components)) (is_sign (codes "*")) (sign_begins (codes ";") (codes "*")) refl v b rest l;
+      colon = starts_text (closed_begins (Consolidated at shown components) (codes ":")) v b rest l;
+      parts = behind_list (codes ";") (done (Consolidated at shown components)) (is_sign (codes "*")) (sign_begins (codes ";") (codes "*")) refl v b rest l;
     })))
 
 attribute_exact : Exact free attribute attribute read_attribute Always
 unfolding read_attribute
-attribute_exact = exact_then (exact_word unscanned (codes "A")) (λ line. exact_then (exact_name unscanned) (λ shown. exact_then (exact_name unscanned)
+attribute_exact = exact_then (exact_word unscanned (codes "A")) (λ at. exact_then (exact_name unscanned) (λ shown. exact_then (exact_name unscanned)
     (λ called. exact_then (exact_sign unscanned (codes "=")) (λ _. exact_then (exact_text unscanned)
-    (λ value. exact_then (exact_sign unscanned (codes ";")) (λ _. exact_gives free (Attribute line shown called value)))))))
+    (λ value. exact_then (exact_sign unscanned (codes ";")) (λ _. exact_gives free (Attribute at shown called value)))))))
 
 pub element_exact : Exact free element element read_element Always
 unfolding read_element
@@ -89,7 +89,7 @@ element_exact = exact_or (is_word (codes "N")) (begins_both (word_begins (codes 
 
 pub end_exact : Exact free ending ending read_end Always
 unfolding read_end
-end_exact = exact_then (exact_word unscanned (codes "END")) (λ line. exact_gives free (End line))
+end_exact = exact_then (exact_word unscanned (codes "END")) (λ at. exact_gives free (End at))
 
 pub close_exact : Exact free closing closing read_close Always
 unfolding read_close

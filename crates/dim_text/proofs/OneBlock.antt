@@ -1,6 +1,7 @@
 -- A block is read in one way only.
 use Rattle.std.proofs.Common.{◌≡◌, ℕ, List, [], ◌∷◌, ◌++◌, length, Result, Ok, Err, refl, sym, ap, ◌∙◌, subst, append_assoc, append-nil, arith}
 use Rattle.cube_lex.specs.Lexeme.{Lexeme}
+use Rattle.cube_lex.specs.declared.position.Position.{Position}
 use Rattle.dim_core.specs.Draft.{IsFinished}
 use Rattle.dim_core.specs.Outline.{Outline}
 use Rattle.grammar.specs.Watch.{Passes}
@@ -27,13 +28,13 @@ read_as d ts builds text next is =
     let same : builds.built ≡ is.built = passes_once building building_cuts nothing builds.built is.built is.block (subst (λ x. Passes building nothing x builds.built) whole builds.text.passes) is.text_of.passes in
     (builds.only text.dimension (subst (λ p. IsFinished p.draft text.dimension) (sym same) is.is_built.dimension), omega (arith, is.next_is, ap length whole))
 
-no_fault : (d : Outline) (ts : List Lexeme) → Builds dimension nothing d ts → (end_line line : ℕ) (cause : DimTextCause) → IsFault ts end_line line cause → cause ≡ causes.Memory
-no_fault d ts builds end_line line causes.Syntax is = absurd (is.0 ts [] (sym (append-nil ts)) builds.text.text)
-no_fault d ts builds end_line line (causes.Dim fault) is =
+no_fault : (d : Outline) (ts : List Lexeme) → Builds dimension nothing d ts → (end at : Position) (cause : DimTextCause) → IsFault ts end at cause → cause ≡ causes.Memory
+no_fault d ts builds end at causes.Syntax is = absurd (is.0 ts [] (sym (append-nil ts)) builds.text.text)
+no_fault d ts builds end at (causes.Dim fault) is =
     absurd (passes_not_refused building building_cuts nothing builds.built _ ts (is.before ++ is.last ∷ []) is.rest builds.text.passes is.refused (is.parts ∙ sym (append_assoc is.before (is.last ∷ []) is.rest)))
-no_fault d ts builds end_line line causes.Memory is = refl
+no_fault d ts builds end at causes.Memory is = refl
 
 -- whatever is answered of tokens that build a dimension, it is the dimension
-pub answer_is : (d : Outline) (ts : List Lexeme) → Builds dimension nothing d ts → (end_line : ℕ) (answer : Result (Text × ℕ) DimTextFault) → Answers ts end_line 0 answer → IsReadAs d (length ts) answer
-answer_is d ts builds end_line (Ok x) is = read_as d ts builds x.0 x.1 is
-answer_is d ts builds end_line (Err fault) is = no_fault d ts builds end_line fault.line fault.cause is
+pub answer_is : (d : Outline) (ts : List Lexeme) → Builds dimension nothing d ts → (end : Position) (answer : Result (Text × ℕ) DimTextFault) → Answers ts end 0 answer → IsReadAs d (length ts) answer
+answer_is d ts builds end (Ok x) is = read_as d ts builds x.0 x.1 is
+answer_is d ts builds end (Err fault) is = no_fault d ts builds end fault.at fault.cause is

@@ -21,7 +21,7 @@ use Rattle.dim_text.proofs.ElementExact.{free, head_exact, element_exact, end_ex
 
 pub head_settles : Settles read_head
 unfolding read_head
-head_settles = settles_both (settles_one _ _) (λ line. settles_both (settles_one _ _) (λ shown. settles_both (settles_one _ _) (λ _. settles_gives _)))
+head_settles = settles_both (settles_one _ _) (λ at. settles_both (settles_one _ _) (λ shown. settles_both (settles_one _ _) (λ _. settles_gives _)))
 
 weight_settles : Settles read_weight
 unfolding read_weight
@@ -37,15 +37,15 @@ parts_settles = settles_choose _ (settles_both (settles_one _ _) (λ _. listed_s
 
 leaf_settles : Settles read_leaf
 unfolding read_leaf
-leaf_settles = settles_both (settles_one _ _) (λ line. settles_both (settles_one _ _) (λ shown. settles_both (settles_one _ _) (λ _. settles_gives _)))
+leaf_settles = settles_both (settles_one _ _) (λ at. settles_both (settles_one _ _) (λ shown. settles_both (settles_one _ _) (λ _. settles_gives _)))
 
 consolidated_settles : Settles read_consolidated
 unfolding read_consolidated
-consolidated_settles = settles_both (settles_one _ _) (λ line. settles_both (settles_one _ _) (λ shown. settles_both parts_settles (λ components. settles_both (settles_one _ _) (λ _. settles_gives _))))
+consolidated_settles = settles_both (settles_one _ _) (λ at. settles_both (settles_one _ _) (λ shown. settles_both parts_settles (λ components. settles_both (settles_one _ _) (λ _. settles_gives _))))
 
 attribute_settles : Settles read_attribute
 unfolding read_attribute
-attribute_settles = settles_both (settles_one _ _) (λ line. settles_both (settles_one _ _) (λ shown. settles_both (settles_one _ _) (λ called. settles_both (settles_one _ _) (λ _. settles_both (settles_one _ _) (λ value. settles_both (settles_one _ _) (λ _. settles_gives _))))))
+attribute_settles = settles_both (settles_one _ _) (λ at. settles_both (settles_one _ _) (λ shown. settles_both (settles_one _ _) (λ called. settles_both (settles_one _ _) (λ _. settles_both (settles_one _ _) (λ value. settles_both (settles_one _ _) (λ _. settles_gives _))))))
 
 pub element_settles : Settles read_element
 unfolding read_element
@@ -53,7 +53,7 @@ element_settles = settles_choose _ leaf_settles (settles_choose _ consolidated_s
 
 pub end_settles : Settles read_end
 unfolding read_end
-end_settles = settles_both (settles_one _ _) (λ line. settles_gives _)
+end_settles = settles_both (settles_one _ _) (λ at. settles_gives _)
 
 pub close_settles : Settles read_close
 unfolding read_close

@@ -2,6 +2,7 @@
 use Rattle.std.proofs.Common.{◌≡◌, ℕ, List, [], ◌∷◌, ◌++◌, Result, Ok, Err, is_ok, OnOk, if◌then◌else◌, sym, ap, ◌∙◌, subst, inl}
 use Rattle.std.proofs.lemmas.List.{append_cancel_left}
 use Rattle.cube_lex.proofs.WrittenTexts.{written-reading}
+use Rattle.cube_lex.specs.Positions.{nowhere}
 use Rattle.cube_lex.specs.Written.{IsWritten, Writes}
 use Rattle.dim_core.proofs.OwnDefinitions.{written_is}
 use Rattle.dim_core.specs.Draft.{IsFinished}
@@ -21,8 +22,8 @@ use Rattle.grammar.proofs.Spells.{split_at}
 
 -- tokens that build the definitions of a dimension build the dimension
 pub body_of : (d : Outline) → IsDimension d → IsBodyOf d (body_spelled (written d))
-body_of d is line ts e =
-    let again = body_again d is line ts e in
+body_of d is at ts e =
+    let again = body_again d is at ts e in
     record {
       built = again.built;
       text = record { text = again.text; passes = again.passes };
@@ -33,15 +34,15 @@ body_of d is line ts e =
 pub block_of : (d : Outline) → IsDimension d → IsBlockOf d (draft_spelled (written d))
 block_of d is ts e =
     let (u, v, parts, front, back) = split_at ts (head_spelled d.name) (body_spelled (written d)) e in
-    let (x, h, (line, same)) = (head_spells 0 d.name is.is_named).at u front in
-    let rest : Builds body (opened line d.name) d v = body_of d is line v back in
-    let added : add nothing x ≡ Ok (opened line d.name) = ap (add nothing) same in
+    let (x, h, (at, same)) = (head_spells nowhere d.name is.is_named).at u front in
+    let rest : Builds body (opened at d.name) d v = body_of d is at v back in
+    let added : add nothing x ≡ Ok (opened at d.name) = ap (add nothing) same in
     record {
       built = rest.built;
       text = record {
         text = (u, v, tt, parts, unit_of u x h, rest.text.text);
         passes = subst (λ w. Passes building nothing w rest.built) (sym parts)
-            (passes-append building nothing (opened line d.name) rest.built u v (passes_one building nothing (opened line d.name) u (x, inl h, added)) rest.text.passes);
+            (passes-append building nothing (opened at d.name) rest.built u v (passes_one building nothing (opened at d.name) u (x, inl h, added)) rest.text.passes);
       };
       finished = rest.finished;
       only = rest.only;
@@ -50,7 +51,7 @@ block_of d is ts e =
 text_of : (d : Outline) → IsDimension d → (bytes : List ℕ) → IsWritten (draft_spelled (written d)) bytes → IsTextOf d bytes
 text_of d is bytes written_so small =
     let (lexed, reading, same) = written-reading (draft_spelled (written d)) bytes written_so small in
-    (lexed, reading, λ answer answers. answer_is d lexed.lexemes (block_of d is lexed.lexemes same) lexed.end_line answer answers)
+    (lexed, reading, λ answer answers. answer_is d lexed.lexemes (block_of d is lexed.lexemes same) lexed.end answer answers)
 
 -- what a call that appends the written tokens has printed
 pub printed_told : {T E : Type 0} (r : Result T E) (d : Outline) → IsDimension d → (old new block : List ℕ) → Writes [] block (draft_spelled (written d))

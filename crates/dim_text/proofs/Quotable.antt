@@ -32,6 +32,7 @@ use Rattle.dim_text.specs.declared.fault.Refusal.{Refusal}
 use Rattle.dim_text.proofs.BlockExact.{body_exact}
 use Rattle.dim_text.proofs.ElementExact.{head_exact, end_begins}
 use Rattle.cube_lex.specs.Written.{IsQuotable}
+use Rattle.cube_lex.specs.declared.position.Position.{Position}
 use Rattle.dim_text.specs.Writable.{IsWritable}
 
 -- Texts and names.
@@ -59,28 +60,28 @@ name_quotable = keeps_one (λ t a is picks.
 
 -- the names and texts that a statement gives a dimension can be written
 abbrev pub IsWritableStatement : Statement → Type 0
-IsWritableStatement (Head line shown) = IsQuotable shown
-IsWritableStatement (Leaf line shown) = IsQuotable shown
-IsWritableStatement (Consolidated line shown components) = IsQuotable shown
-IsWritableStatement (Attribute line shown called value) = IsQuotable called × IsQuotable value
-IsWritableStatement (End line) = Unit {0}
+IsWritableStatement (Head at shown) = IsQuotable shown
+IsWritableStatement (Leaf at shown) = IsQuotable shown
+IsWritableStatement (Consolidated at shown components) = IsQuotable shown
+IsWritableStatement (Attribute at shown called value) = IsQuotable called × IsQuotable value
+IsWritableStatement (End at) = Unit {0}
 IsWritableStatement Close = Unit {0}
 
 pub head_keeps : Keeps head IsWritableStatement
-head_keeps = keeps_both keeps_any (λ line _. keeps_both name_quotable (λ shown q. keeps_both keeps_any (λ _ _. keeps_done q)))
+head_keeps = keeps_both keeps_any (λ at _. keeps_both name_quotable (λ shown q. keeps_both keeps_any (λ _ _. keeps_done q)))
 
 leaf_keeps : Keeps leaf IsWritableStatement
-leaf_keeps = keeps_both keeps_any (λ line _. keeps_both name_quotable (λ shown q. keeps_both keeps_any (λ _ _. keeps_done q)))
+leaf_keeps = keeps_both keeps_any (λ at _. keeps_both name_quotable (λ shown q. keeps_both keeps_any (λ _ _. keeps_done q)))
 
 consolidated_keeps : Keeps consolidated IsWritableStatement
-consolidated_keeps = keeps_both keeps_any (λ line _. keeps_both name_quotable (λ shown q. keeps_both keeps_any (λ components _. keeps_both keeps_any (λ _ _. keeps_done q))))
+consolidated_keeps = keeps_both keeps_any (λ at _. keeps_both name_quotable (λ shown q. keeps_both keeps_any (λ components _. keeps_both keeps_any (λ _ _. keeps_done q))))
 
 attribute_keeps : Keeps attribute IsWritableStatement
-attribute_keeps = keeps_both keeps_any (λ line _. keeps_both keeps_any (λ shown _. keeps_both name_quotable
+attribute_keeps = keeps_both keeps_any (λ at _. keeps_both keeps_any (λ shown _. keeps_both name_quotable
     (λ called q. keeps_both keeps_any (λ _ _. keeps_both text_quotable (λ value r. keeps_both keeps_any (λ _ _. keeps_done (q, r)))))))
 
 ending_keeps : Keeps ending IsWritableStatement
-ending_keeps = keeps_both keeps_any (λ line _. keeps_done tt)
+ending_keeps = keeps_both keeps_any (λ at _. keeps_done tt)
 
 closing_keeps : Keeps closing IsWritableStatement
 closing_keeps = keeps_both keeps_any (λ _ _. keeps_done tt)
@@ -101,8 +102,8 @@ ok_is x y e = cc
 pub empty_writable : (shown : List ℕ) → IsQuotable shown → IsWritableDraft (empty_draft shown)
 empty_writable shown q = record { name = q; elements = All-nil (λ e. IsQuotable e.name); attributes = All-nil (λ a. IsQuotable a.name × IsQuotable a.text) }
 
-element_keeps : (p s : Progress) (line : ℕ) (shown : List ℕ) (components : List (List ℕ × ℤ)) (cause : Option DimFault) → IsQuotable shown → IsWritableDraft p.draft → element_added p line shown components cause ≡ Ok s → IsWritableDraft s.draft
-element_keeps p s line shown components None q w e =
+element_keeps : (p s : Progress) (at : Position) (shown : List ℕ) (components : List (List ℕ × ℤ)) (cause : Option DimFault) → IsQuotable shown → IsWritableDraft p.draft → element_added p at shown components cause ≡ Ok s → IsWritableDraft s.draft
+element_keeps p s at shown components None q w e =
     let more : IsWritableDraft (with_element p.draft shown components) = record {
       name = w.name;
       elements = All-push (λ e. IsQuotable e.name) p.draft.elements (record { name = shown; components = components }) w.elements q;
@@ -110,17 +111,17 @@ element_keeps p s line shown components None q w e =
     } in
     let same : with_element p.draft shown components ≡ s.draft = cc in
     subst IsWritableDraft same more
-element_keeps p s line shown components (Some fault) q w e = cc
+element_keeps p s at shown components (Some fault) q w e = cc
 
 finish_keeps : (p s : Progress) (cause : Option DimFault) → IsWritableDraft p.draft → finished p cause ≡ Ok s → IsWritableDraft s.draft
 finish_keeps p s None w e = let same : p.draft ≡ s.draft = cc in subst IsWritableDraft same w
 finish_keeps p s (Some fault) w e = cc
 
 add_keeps : (p s : Progress) (x : Statement) → IsWritableStatement x → IsWritableDraft p.draft → add p x ≡ Ok s → IsWritableDraft s.draft
-add_keeps p s (Head line shown) q w e = let same : empty_draft shown ≡ s.draft = cc in subst IsWritableDraft same (empty_writable shown q)
-add_keeps p s (Leaf line shown) q w e = element_keeps p s line shown [] (refusal_of p.draft shown []) q w e
-add_keeps p s (Consolidated line shown components) q w e = element_keeps p s line shown components (refusal_of p.draft shown components) q w e
-add_keeps p s (Attribute line shown called value) q w e =
+add_keeps p s (Head at shown) q w e = let same : empty_draft shown ≡ s.draft = cc in subst IsWritableDraft same (empty_writable shown q)
+add_keeps p s (Leaf at shown) q w e = element_keeps p s at shown [] (refusal_of p.draft shown []) q w e
+add_keeps p s (Consolidated at shown components) q w e = element_keeps p s at shown components (refusal_of p.draft shown components) q w e
+add_keeps p s (Attribute at shown called value) q w e =
     let more : IsWritableDraft (with_attribute p.draft shown called value) = record {
       name = w.name;
       elements = w.elements;
@@ -128,7 +129,7 @@ add_keeps p s (Attribute line shown called value) q w e =
     } in
     let same : with_attribute p.draft shown called value ≡ s.draft = cc in
     subst IsWritableDraft same more
-add_keeps p s (End line) q w e = finish_keeps p s (finish_refusal_of p.draft) w e
+add_keeps p s (End at) q w e = finish_keeps p s (finish_refusal_of p.draft) w e
 add_keeps p s Close q w e = let same : p.draft ≡ s.draft = cc in subst IsWritableDraft same w
 
 all_keep : (p s : Progress) (pieces : List (List Lexeme)) → AreTokens (joined pieces) → IsWritableDraft p.draft → AllPass building p pieces s → IsWritableDraft s.draft
@@ -159,11 +160,11 @@ finished_writable draft d w h = record {
 -- What is read of tokens.
 
 -- a head that was read
-pub head_told : (line : ℕ) (shown : List ℕ) (state : Unwatched) (ts left : List Lexeme) → AreTokens ts → read_head (record {}) ts ≡ Ok (Head line shown, state, left) → IsQuotable shown × AreTokens left
-head_told line shown state ts left tokens read =
-    let (text, parts, is) = read_told head_exact (record {}) ts (Head line shown) state left read in
+pub head_told : (at : Position) (shown : List ℕ) (state : Unwatched) (ts left : List Lexeme) → AreTokens ts → read_head (record {}) ts ≡ Ok (Head at shown, state, left) → IsQuotable shown × AreTokens left
+head_told at shown state ts left tokens read =
+    let (text, parts, is) = read_told head_exact (record {}) ts (Head at shown) state left read in
     let whole : AreTokens (text ++ left) = subst AreTokens parts tokens in
-    (head_keeps.at text (Head line shown) (first_tokens text left whole) is.text, last_tokens text left whole)
+    (head_keeps.at text (Head at shown) (first_tokens text left whole) is.text, last_tokens text left whole)
 
 -- the end of a block has a token
 ending_begins : Begins (unit ending) is_element_word false
@@ -175,13 +176,13 @@ body_some u a (v, w, x, parts, h, (v2, w2, y, parts2, h2, l)) =
     omega (arith, ap length parts, length-append v w, ap length parts2, length-append v2 w2, ap length is)
 
 -- what stands behind a head, with a name that can be written
-pub body_told : (line : ℕ) (shown : List ℕ) (result : Result Text (Stop Refusal)) (ts left : List Lexeme) → AreTokens ts → IsQuotable shown → GivesText result left (read_body (opened line shown) ts)
+pub body_told : (at : Position) (shown : List ℕ) (result : Result Text (Stop Refusal)) (ts left : List Lexeme) → AreTokens ts → IsQuotable shown → GivesText result left (read_body (opened at shown) ts)
     → IfOk result (λ text. IsWritable text.dimension) × OnOk result (length left < length ts) × OnOk result (AreTokens left)
-body_told line shown (Ok text) ts left tokens quotable (p, read, built) =
-    let (block, parts, is) = read_told body_exact (opened line shown) ts tt p left read in
+body_told at shown (Ok text) ts left tokens quotable (p, read, built) =
+    let (block, parts, is) = read_told body_exact (opened at shown) ts tt p left read in
     let whole : AreTokens (block ++ left) = subst AreTokens parts tokens in
     let some : 0 < length block = body_some block tt is.text in
     let size : length ts ≡ length block + length left = ap length parts ∙ length-append block left in
-    let draft : IsWritableDraft p.draft = passes_keep (opened line shown) p block (first_tokens block left whole) (empty_writable shown quotable) is.passes in
+    let draft : IsWritableDraft p.draft = passes_keep (opened at shown) p block (first_tokens block left whole) (empty_writable shown quotable) is.passes in
     (finished_writable p.draft text.dimension draft built.dimension, omega (arith, some, size), last_tokens block left whole)
-body_told line shown (Err stop) ts left tokens quotable read = (tt, tt, tt)
+body_told at shown (Err stop) ts left tokens quotable read = (tt, tt, tt)

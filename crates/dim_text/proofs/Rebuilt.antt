@@ -5,7 +5,9 @@ use Rattle.std.proofs.lemmas.List.{get_or-map, length-map, map-append}
 use Rattle.std.proofs.lemmas.List.Elements.{All-head, All-tail, All-map, All-weaker}
 use Rattle.std.specs.List.{All, AllZip, IsDistinct, flat_map}
 use Rattle.cube_lex.specs.Lexeme.{Lexeme}
+use Rattle.cube_lex.specs.Positions.{nowhere}
 use Rattle.cube_lex.specs.Written.{spelling_of}
+use Rattle.cube_lex.specs.declared.position.Position.{Position}
 use Rattle.dim_name.specs.Name.{is_name, is_same_name}
 use Rattle.dim_core.proofs.Naming.{place_at}
 use Rattle.dim_core.proofs.OwnDefinitions.{element_accepted, written_finishes, names_of-written as names_again}
@@ -30,8 +32,8 @@ use Rattle.dim_text.proofs.SpelledStatements.{IsPart, IsSame, defining_spells, a
 -- an element is added again, where nothing is said against it
 element_again : (p : Progress) (shown : List ℕ) (components : List (List ℕ × ℤ)) (y : Statement) → IsSame (defining shown components) y → refusal_of p.draft shown components ≡ None
     → (s : Progress) × (add p y ≡ Ok s) × (s.draft ≡ with_element p.draft shown components)
-element_again p shown [] y (line, is) free = (_, ap (add p) is ∙ ap (element_added p line shown []) free, refl)
-element_again p shown (first ∷ rest) y (line, is) free = (_, ap (add p) is ∙ ap (element_added p line shown (first ∷ rest)) free, refl)
+element_again p shown [] y (at, is) free = (_, ap (add p) is ∙ ap (element_added p at shown []) free, refl)
+element_again p shown (first ∷ rest) y (at, is) free = (_, ap (add p) is ∙ ap (element_added p at shown (first ∷ rest)) free, refl)
 
 -- Lists of statements.
 
@@ -40,15 +42,15 @@ many-append u v [] ys h k = subst (λ w. many element (w ++ v) ys) (sym h) k
 many-append u v (x ∷ xs) ys (a, b, parts, h, more) k = (a, b ++ v, ap (λ w. w ++ v) parts ∙ append_assoc a b v, h, many-append b v xs ys more k)
 
 -- the attributes are added, whatever they are
-attributes_again : (calls : List NamedAttribute) (list : List Statement) → AllZip (λ a y. IsSame (Attribute 0 a.element a.name a.text) y) calls list
+attributes_again : (calls : List NamedAttribute) (list : List Statement) → AllZip (λ a y. IsSame (Attribute nowhere a.element a.name a.text) y) calls list
     → (p : Progress) (ts : List Lexeme) → many element ts list → (s : Progress) × Passes building p ts s × (s.draft ≡ record p.draft { attributes = p.draft.attributes ++ calls })
 attributes_again [] [] zip p ts h =
     (p, subst (λ u. Passes building p u p) (sym h) (passes_nothing building p), ap (λ calls. record p.draft { attributes = calls }) (sym (append-nil p.draft.attributes)))
 attributes_again [] (y ∷ ys) zip p ts h = absurd zip
 attributes_again (a ∷ rest) [] zip p ts h = absurd zip
 attributes_again (a ∷ rest) (y ∷ ys) zip p ts (u, v, parts, here, more) =
-    let line : ℕ = zip.0.0 in
-    let next : Progress = record p { draft = record p.draft { attributes = p.draft.attributes ++ a ∷ [] }; attribute_lines = p.attribute_lines ++ line ∷ [] } in
+    let at : Position = zip.0.0 in
+    let next : Progress = record p { draft = record p.draft { attributes = p.draft.attributes ++ a ∷ [] }; attribute_positions = p.attribute_positions ++ at ∷ [] } in
     let added : add p y ≡ Ok next = ap (add p) zip.0.1 in
     let (s, passes, draft) = attributes_again rest ys zip.1 next v more in (
       s,
@@ -143,17 +145,17 @@ pub record IsBody (d : Outline) (start : Progress) (ts : List Lexeme) : Type 0 w
 many_unit : (u : List Lexeme) (list : List Statement) → many element u list → unit (many element) u tt
 many_unit u list h = (u, [], list, sym (append-nil u), h, (refl, refl))
 
-pub body_again : (d : Outline) → IsDimension d → (line : ℕ) (ts : List Lexeme) → map spelling_of ts ≡ body_spelled (written d) → IsBody d (opened line d.name) ts
-body_again d is line ts e =
+pub body_again : (d : Outline) → IsDimension d → (at : Position) (ts : List Lexeme) → map spelling_of ts ≡ body_spelled (written d) → IsBody d (opened at d.name) ts
+body_again d is at ts e =
     let w : Draft = written d in
-    let p : Progress = opened line d.name in
-    let (u, v, parts, front, back) = split_at ts (flat_map element_spelled w.elements) (flat_map attribute_spelled w.attributes ++ (spelled (End 0) ++ spelled Close)) e in
-    let (u2, v2, parts2, front2, back2) = split_at v (flat_map attribute_spelled w.attributes) (spelled (End 0) ++ spelled Close) back in
-    let (u3, v3, parts3, front3, back3) = split_at v2 (spelled (End 0)) (spelled Close) back2 in
+    let p : Progress = opened at d.name in
+    let (u, v, parts, front, back) = split_at ts (flat_map element_spelled w.elements) (flat_map attribute_spelled w.attributes ++ (spelled (End nowhere) ++ spelled Close)) e in
+    let (u2, v2, parts2, front2, back2) = split_at v (flat_map attribute_spelled w.attributes) (spelled (End nowhere) ++ spelled Close) back in
+    let (u3, v3, parts3, front3, back3) = split_at v2 (spelled (End nowhere)) (spelled Close) back2 in
     let (elements, many_e, zip_e) = (spells_many element_spelled IsGood (λ (x : Element (List ℕ)) y. IsSame (defining x.name x.components) y) (λ x good. defining_spells x.name x.components good.0 good.1) w.elements (all_good d is)).at u front in
-    let (attributes, many_a, zip_a) = (spells_many attribute_spelled IsGoodAttribute (λ a y. IsSame (Attribute 0 a.element a.name a.text) y) (λ a good. attribute_element_spells a.element a.name a.text good.0 good.1) w.attributes (good_attributes d is)).at u2 front2 in
-    let (end, end_is, (end_line, end_same)) = (ending_spells 0).at u3 front3 in
-    let (close, close_is, (close_line, close_same)) = closing_spells.at v3 back3 in
+    let (attributes, many_a, zip_a) = (spells_many attribute_spelled IsGoodAttribute (λ a y. IsSame (Attribute nowhere a.element a.name a.text) y) (λ a good. attribute_element_spells a.element a.name a.text good.0 good.1) w.attributes (good_attributes d is)).at u2 front2 in
+    let (end, end_is, (end_at, end_same)) = (ending_spells nowhere).at u3 front3 in
+    let (close, close_is, (close_at, close_same)) = closing_spells.at v3 back3 in
     let (s1, pass1, draft1) = elements_again d is d.elements [] refl elements zip_e p refl u many_e in
     let (s2, pass2, draft2) = attributes_again w.attributes attributes zip_a s1 u2 many_a in
     let built : s2.draft ≡ w = draft2 ∙ ap (λ (x : Draft). record x { attributes = x.attributes ++ w.attributes }) draft1 in

@@ -1,4 +1,4 @@
--- Each statement as it is written is read as that statement again, on its new line.
+-- Each statement as it is written is read as that statement again, at its new place.
 use Rattle.std.proofs.Common.{◌≡◌, ◌≤◌, ◌<◌, ◌^◌, ℕ, suc, ℤ, pos, negsuc, neg_ℤ, ◌==◌, List, [], ◌∷◌, true, false, Bool, Some, ◌&&◌, cond, refl, sym, ap, ◌∙◌, nat_lt, codes, decimal, IsTrue, arith}
 use Rattle.std.proofs.lemmas.Bool.{lt-ltb, eqb-true, and_from as and_both, cond-true}
 use Rattle.std.proofs.lemmas.Fmt.{decimal_is_IsNumeral}
@@ -20,6 +20,8 @@ use Rattle.dim_text.specs.Spelled.{whole_token, weight_spelled, part_spelled, ne
 use Rattle.dim_text.specs.Statement.{Statement, Head, Leaf, Consolidated, Attribute, End, Close, signed, head, weight, part, parts, leaf, consolidated, attribute, element, ending, closing}
 use Rattle.grammar.proofs.Spells.{Spells, Picks, spells_done, spells_next, spells_both, spells_left, spells_right, spells_made, spells_many}
 use Rattle.cube_lex.proofs.Numbers.{digits-pass as digits_pass}
+use Rattle.cube_lex.specs.Positions.{position_of, nowhere}
+use Rattle.cube_lex.specs.declared.position.Position.{Position}
 
 -- One token.
 
@@ -28,7 +30,7 @@ picks_word w = record {
   at = λ t e. (
       let kind : is_word_kind t.kind ≡ true = ap (λ s. is_word_kind s.kind) e in
       let piece : str_eq_ignore_ascii_case t.piece w ≡ true = ap (λ s. str_eq_ignore_ascii_case s.piece w) e ∙ bytes_eq_self (str_to_ascii_lowercase w) in
-      (t.line, cond-true _ (Some t.line) _ (and_both _ _ kind piece), tt));
+      (position_of t, cond-true _ (Some (position_of t)) _ (and_both _ _ kind piece), tt));
 }
 
 pub picks_sign : (s : List ℕ) → Picks (sign s) (sign_token s) (λ _. Unit {0})
@@ -110,51 +112,51 @@ parts_spells (first ∷ rest) all =
 
 -- Statements.
 
--- the same statement, where its first word stands on this line
-abbrev pub on_line : ℕ → Statement → Statement
-on_line line (Head _ shown) = Head line shown
-on_line line (Leaf _ shown) = Leaf line shown
-on_line line (Consolidated _ shown components) = Consolidated line shown components
-on_line line (Attribute _ shown called value) = Attribute line shown called value
-on_line line (End _) = End line
-on_line line Close = Close
+-- the same statement, where its first word stands at this place
+abbrev pub standing_at : Position → Statement → Statement
+standing_at at (Head _ shown) = Head at shown
+standing_at at (Leaf _ shown) = Leaf at shown
+standing_at at (Consolidated _ shown components) = Consolidated at shown components
+standing_at at (Attribute _ shown called value) = Attribute at shown called value
+standing_at at (End _) = End at
+standing_at at Close = Close
 
--- it is that statement, but for its line
+-- it is that statement, but for its place
 abbrev pub IsSame : Statement → Statement → Type 0
-IsSame x y = (line : ℕ) × (y ≡ on_line line x)
+IsSame x y = (at : Position) × (y ≡ standing_at at x)
 
-pub head_spells : (line : ℕ) (shown : List ℕ) → IsTrue (is_name shown) → Spells head (spelled (Head line shown)) (IsSame (Head line shown))
-head_spells line shown is = spells_next (picks_word (codes "DIM")) (λ n _. spells_next (picks_name shown is) (λ x same. spells_next (picks_sign (codes ";"))
+pub head_spells : (at : Position) (shown : List ℕ) → IsTrue (is_name shown) → Spells head (spelled (Head at shown)) (IsSame (Head at shown))
+head_spells at shown is = spells_next (picks_word (codes "DIM")) (λ n _. spells_next (picks_name shown is) (λ x same. spells_next (picks_sign (codes ";"))
     (λ _ _. spells_done (Head n x) (n, ap (λ y. Head n y) same))))
 
-leaf_spells : (line : ℕ) (shown : List ℕ) → IsTrue (is_name shown) → Spells leaf (spelled (Leaf line shown)) (IsSame (Leaf line shown))
-leaf_spells line shown is = spells_next (picks_word (codes "N")) (λ n _. spells_next (picks_name shown is) (λ x same. spells_next (picks_sign (codes ";"))
+leaf_spells : (at : Position) (shown : List ℕ) → IsTrue (is_name shown) → Spells leaf (spelled (Leaf at shown)) (IsSame (Leaf at shown))
+leaf_spells at shown is = spells_next (picks_word (codes "N")) (λ n _. spells_next (picks_name shown is) (λ x same. spells_next (picks_sign (codes ";"))
     (λ _ _. spells_done (Leaf n x) (n, ap (λ y. Leaf n y) same))))
 
-consolidated_spells : (line : ℕ) (shown : List ℕ) (components : List (List ℕ × ℤ)) → IsTrue (is_name shown) → All IsPart components
-    → Spells consolidated (spelled (Consolidated line shown components)) (IsSame (Consolidated line shown components))
-consolidated_spells line shown components is all = spells_next (picks_word (codes "C")) (λ n _. spells_next (picks_name shown is)
+consolidated_spells : (at : Position) (shown : List ℕ) (components : List (List ℕ × ℤ)) → IsTrue (is_name shown) → All IsPart components
+    → Spells consolidated (spelled (Consolidated at shown components)) (IsSame (Consolidated at shown components))
+consolidated_spells at shown components is all = spells_next (picks_word (codes "C")) (λ n _. spells_next (picks_name shown is)
     (λ x same. spells_both {xs = parts_spelled components} {ys = sign_token (codes ";") ∷ []} (parts_spells components all)
     (λ list e. spells_next (picks_sign (codes ";")) (λ _ _. spells_done (Consolidated n x list) (n, ap (λ y. Consolidated n y list) same ∙ ap (λ l. Consolidated n shown l) e)))))
 
-attribute_spells : (line : ℕ) (shown called value : List ℕ) → IsTrue (is_name shown) → IsTrue (is_name called)
-    → Spells attribute (spelled (Attribute line shown called value)) (IsSame (Attribute line shown called value))
-attribute_spells line shown called value is-shown is-called = spells_next (picks_word (codes "A")) (λ n _. spells_next (picks_name shown is-shown)
+attribute_spells : (at : Position) (shown called value : List ℕ) → IsTrue (is_name shown) → IsTrue (is_name called)
+    → Spells attribute (spelled (Attribute at shown called value)) (IsSame (Attribute at shown called value))
+attribute_spells at shown called value is-shown is-called = spells_next (picks_word (codes "A")) (λ n _. spells_next (picks_name shown is-shown)
     (λ x same-x. spells_next (picks_name called is-called) (λ y same-y. spells_next (picks_sign (codes "=")) (λ _ _. spells_next (picks_text value)
     (λ z same-z. spells_next (picks_sign (codes ";"))
     (λ _ _. spells_done (Attribute n x y z) (n, ap (λ t. Attribute n t y z) same-x ∙ ap (λ t. Attribute n shown t z) same-y ∙ ap (λ t. Attribute n shown called t) same-z)))))))
 
-pub ending_spells : (line : ℕ) → Spells ending (spelled (End line)) (IsSame (End line))
-ending_spells line = spells_next (picks_word (codes "END")) (λ n _. spells_done (End n) (n, refl))
+pub ending_spells : (at : Position) → Spells ending (spelled (End at)) (IsSame (End at))
+ending_spells at = spells_next (picks_word (codes "END")) (λ n _. spells_done (End n) (n, refl))
 
 pub closing_spells : Spells closing (spelled Close) (IsSame Close)
-closing_spells = spells_next (picks_sign (codes ";")) (λ _ _. spells_done Close (0, refl))
+closing_spells = spells_next (picks_sign (codes ";")) (λ _ _. spells_done Close (nowhere, refl))
 
 pub defining_spells : (shown : List ℕ) (components : List (List ℕ × ℤ)) → IsTrue (is_name shown) → All IsPart components
     → Spells element (spelled (defining shown components)) (IsSame (defining shown components))
-defining_spells shown [] is all = spells_left (leaf_spells 0 shown is)
-defining_spells shown (first ∷ rest) is all = spells_right (spells_left (consolidated_spells 0 shown (first ∷ rest) is all))
+defining_spells shown [] is all = spells_left (leaf_spells nowhere shown is)
+defining_spells shown (first ∷ rest) is all = spells_right (spells_left (consolidated_spells nowhere shown (first ∷ rest) is all))
 
 pub attribute_element_spells : (shown called value : List ℕ) → IsTrue (is_name shown) → IsTrue (is_name called)
-    → Spells element (spelled (Attribute 0 shown called value)) (IsSame (Attribute 0 shown called value))
-attribute_element_spells shown called value is-shown is-called = spells_right (spells_right (attribute_spells 0 shown called value is-shown is-called))
+    → Spells element (spelled (Attribute nowhere shown called value)) (IsSame (Attribute nowhere shown called value))
+attribute_element_spells shown called value is-shown is-called = spells_right (spells_right (attribute_spells nowhere shown called value is-shown is-called))

@@ -1,6 +1,8 @@
 -- What is answered of a block: the dimension that its statements build, or the first fault.
 use Rattle.std.specs.Prelude.{◌≡◌, ℕ, ◌+◌, List, ◌++◌, length, Result, Ok, Err}
 use Rattle.cube_lex.specs.Lexeme.{Lexeme}
+use Rattle.cube_lex.specs.Positions.{position_of, nowhere}
+use Rattle.cube_lex.specs.declared.position.Position.{Position}
 use Rattle.grammar.specs.Fault.{IsText, IsSyntax, IsRefused}
 use Rattle.dim_text.specs.Progress.{Progress, Text, IsBuilt}
 use Rattle.dim_text.specs.Building.{building, nothing}
@@ -24,14 +26,14 @@ pub record IsBlock (tokens : List Lexeme) (from : ℕ) (text : Text) (next : ℕ
 abbrev pub BeginsNoBlock : List Lexeme → Type 0
 BeginsNoBlock tokens = (block rest : List Lexeme) → tokens ≡ block ++ rest → dimension block tt → ⊥
 
--- this is the first fault, on this line
-abbrev pub IsFault : List Lexeme → ℕ → ℕ → DimTextCause → Type 0
-IsFault tokens end_line line causes.Syntax =
-    BeginsNoBlock tokens × IsSyntax (λ t. t.line) dimension building nothing tokens end_line line
-IsFault tokens end_line line (causes.Dim fault) =
-    IsRefused dimension building nothing tokens (record { line = line; fault = fault })
-IsFault tokens end_line line causes.Memory = line ≡ 0
+-- this is the first fault, at this place
+abbrev pub IsFault : List Lexeme → Position → Position → DimTextCause → Type 0
+IsFault tokens end at causes.Syntax =
+    BeginsNoBlock tokens × IsSyntax position_of dimension building nothing tokens end at
+IsFault tokens end at (causes.Dim fault) =
+    IsRefused dimension building nothing tokens (record { at = at; fault = fault })
+IsFault tokens end at causes.Memory = at ≡ nowhere
 
-abbrev pub Answers : List Lexeme → ℕ → ℕ → Result (Text × ℕ) DimTextFault → Type 0
-Answers tokens end_line from (Ok x) = IsBlock tokens from x.0 x.1
-Answers tokens end_line from (Err fault) = IsFault tokens end_line fault.line fault.cause
+abbrev pub Answers : List Lexeme → Position → ℕ → Result (Text × ℕ) DimTextFault → Type 0
+Answers tokens end from (Ok x) = IsBlock tokens from x.0 x.1
+Answers tokens end from (Err fault) = IsFault tokens end fault.at fault.cause

@@ -19,7 +19,7 @@ IsReadAs d end (Err fault) = fault.cause ≡ causes.Memory
 -- whatever is answered of the tokens, it is the dimension
 abbrev pub ReadsAs : Outline → Lexed → Type 0
 ReadsAs d lexed =
-    (answer : Result (Text × ℕ) DimTextFault) → Answers lexed.lexemes lexed.end_line 0 answer
+    (answer : Result (Text × ℕ) DimTextFault) → Answers lexed.lexemes lexed.end 0 answer
     → IsReadAs d (length lexed.lexemes) answer
 
 -- where the bytes aren't too many for a text, they have a reading without a fault, and it reads as the dimension

@@ -1,6 +1,7 @@
 -- How a dimension is written, token by token.
 use Rattle.std.specs.Prelude.{ℕ, suc, ℤ, pos, negsuc, ◌==◌, List, [], ◌∷◌, ◌++◌, codes, decimal, if◌then◌else◌}
 use Rattle.std.specs.List.{flat_map}
+use Rattle.cube_lex.specs.Positions.{nowhere}
 use Rattle.cube_lex.specs.Written.{Spelling, word_token, sign_token, text_token, number_token}
 use Rattle.dim_core.specs.Draft.{Draft}
 use Rattle.dim_core.specs.Outline.{Element}
@@ -26,35 +27,35 @@ parts_spelled [] = []
 parts_spelled (first ∷ rest) = sign_token (codes ":") ∷ (part_spelled first ++ flat_map next_part_spelled rest)
 
 abbrev pub spelled : Statement → List Spelling
-spelled (Head line shown) = word_token (codes "DIM") ∷ text_token shown ∷ sign_token (codes ";") ∷ []
-spelled (Leaf line shown) = word_token (codes "N") ∷ text_token shown ∷ sign_token (codes ";") ∷ []
-spelled (Consolidated line shown components) =
+spelled (Head at shown) = word_token (codes "DIM") ∷ text_token shown ∷ sign_token (codes ";") ∷ []
+spelled (Leaf at shown) = word_token (codes "N") ∷ text_token shown ∷ sign_token (codes ";") ∷ []
+spelled (Consolidated at shown components) =
     word_token (codes "C") ∷ text_token shown ∷ (parts_spelled components ++ sign_token (codes ";") ∷ [])
-spelled (Attribute line shown called value) =
+spelled (Attribute at shown called value) =
     word_token (codes "A") ∷ text_token shown ∷ text_token called ∷ sign_token (codes "=")
     ∷ text_token value ∷ sign_token (codes ";") ∷ []
-spelled (End line) = word_token (codes "END") ∷ []
+spelled (End at) = word_token (codes "END") ∷ []
 spelled Close = sign_token (codes ";") ∷ []
 
--- the statement that defines an element; its line isn't written
+-- the statement that defines an element; its place isn't written
 abbrev pub defining : List ℕ → List (List ℕ × ℤ) → Statement
-defining shown [] = Leaf 0 shown
-defining shown (first ∷ rest) = Consolidated 0 shown (first ∷ rest)
+defining shown [] = Leaf nowhere shown
+defining shown (first ∷ rest) = Consolidated nowhere shown (first ∷ rest)
 
 abbrev pub element_spelled : Element (List ℕ) → List Spelling
 element_spelled e = spelled (defining e.name e.components)
 
 abbrev pub attribute_spelled : NamedAttribute → List Spelling
-attribute_spelled a = spelled (Attribute 0 a.element a.name a.text)
+attribute_spelled a = spelled (Attribute nowhere a.element a.name a.text)
 
 -- the elements, the attributes and the end
 abbrev pub body_spelled : Draft → List Spelling
 body_spelled draft =
     flat_map element_spelled draft.elements
-    ++ (flat_map attribute_spelled draft.attributes ++ (spelled (End 0) ++ spelled Close))
+    ++ (flat_map attribute_spelled draft.attributes ++ (spelled (End nowhere) ++ spelled Close))
 
 abbrev pub head_spelled : List ℕ → List Spelling
-head_spelled shown = spelled (Head 0 shown)
+head_spelled shown = spelled (Head nowhere shown)
 
 abbrev pub draft_spelled : Draft → List Spelling
 draft_spelled draft = head_spelled draft.name ++ body_spelled draft

@@ -1,20 +1,21 @@
 -- The block of a dimension in a model file.
 use Rattle.std.specs.Prelude.{ℕ, ℤ, pos, neg_ℤ, List, [], ◌∷◌, Bool, true, false, codes}
 use Rattle.cube_lex.specs.Lexeme.{Lexeme}
+use Rattle.cube_lex.specs.declared.position.Position.{Position}
 use Rattle.grammar.specs.Grammar.{Grammar, done, one, either, many, ◌>>=◌, ◌>>◌}
 use Rattle.grammar.specs.Lists.{minus, listed}
 use Rattle.grammar.specs.Tokens.{sign, word, whole, name, text}
 
--- a statement, with the line of its first word
+-- a statement, with the place of its first word
 pub data Statement : Type 0 where
   -- the head, with the dimension's name
-  Head : ℕ → List ℕ → Statement
-  Leaf : ℕ → List ℕ → Statement
+  Head : Position → List ℕ → Statement
+  Leaf : Position → List ℕ → Statement
   -- with its components and their weights
-  Consolidated : ℕ → List ℕ → List (List ℕ × ℤ) → Statement
+  Consolidated : Position → List ℕ → List (List ℕ × ℤ) → Statement
   -- of an element, with the attribute's name and its text
-  Attribute : ℕ → List ℕ → List ℕ → List ℕ → Statement
-  End : ℕ → Statement
+  Attribute : Position → List ℕ → List ℕ → List ℕ → Statement
+  End : Position → Statement
   -- the last `;`
   Close : Statement
 
@@ -25,10 +26,10 @@ signed false n = pos n
 -- "DIM" name ";"
 abbrev pub head : Grammar Lexeme Statement
 head = do
-  line ← one (word (codes "DIM"))
+  at ← one (word (codes "DIM"))
   shown ← one name
   one (sign (codes ";"))
-  done (Head line shown)
+  done (Head at shown)
 
 -- [ "*" [ "-" ] whole ]
 abbrev pub weight : Grammar Lexeme ℤ
@@ -52,30 +53,30 @@ parts = either
 -- "N" name ";"
 abbrev pub leaf : Grammar Lexeme Statement
 leaf = do
-  line ← one (word (codes "N"))
+  at ← one (word (codes "N"))
   shown ← one name
   one (sign (codes ";"))
-  done (Leaf line shown)
+  done (Leaf at shown)
 
 -- "C" name [ ":" part { "," part } ] ";"
 abbrev pub consolidated : Grammar Lexeme Statement
 consolidated = do
-  line ← one (word (codes "C"))
+  at ← one (word (codes "C"))
   shown ← one name
   components ← parts
   one (sign (codes ";"))
-  done (Consolidated line shown components)
+  done (Consolidated at shown components)
 
 -- "A" name name "=" Text ";"
 abbrev pub attribute : Grammar Lexeme Statement
 attribute = do
-  line ← one (word (codes "A"))
+  at ← one (word (codes "A"))
   shown ← one name
   called ← one name
   one (sign (codes "="))
   value ← one text
   one (sign (codes ";"))
-  done (Attribute line shown called value)
+  done (Attribute at shown called value)
 
 abbrev pub element : Grammar Lexeme Statement
 element = either leaf (either consolidated attribute)
@@ -88,8 +89,8 @@ unit G = do
 
 abbrev pub ending : Grammar Lexeme Statement
 ending = do
-  line ← one (word (codes "END"))
-  done (End line)
+  at ← one (word (codes "END"))
+  done (End at)
 
 abbrev pub closing : Grammar Lexeme Statement
 closing = do

@@ -11,9 +11,9 @@ use crate::element::{element_at, element_comes, head_at};
 use crate::fault::{DimTextCause, DimTextFault, Refusal};
 use crate::partial::PartialBlock;
 use crate::text::{Block, DimText};
-use cube_lex::{Tokens, TokensLeft};
+use cube_lex::{Position, Tokens, TokensLeft};
 use dim_core::Name;
-use grammar::{Cursor, Stop, Unwatched, line_left, sign, word};
+use grammar::{Cursor, Stop, Unwatched, position_left, sign, word};
 use lists::TableKeys;
 use std::alloc::Global;
 
@@ -60,7 +60,7 @@ fn closing_at(cursor: &mut Cursor<'_, Unwatched>, block: Block) -> Result<Block,
 fn statements_at(
     alloc: Global,
     cursor: &mut Cursor<'_, Unwatched>,
-    head: u32,
+    head: Position,
     name: Name,
     table: TableKeys,
 ) -> Result<Block, Stop<Refusal>>
@@ -71,12 +71,12 @@ fn statements_at(
     closing_at(cursor, block)
 }
 
-/// Reads what stands behind the head of a block, `{ element } END ;`, where the head has this line and this name. The
+/// Reads what stands behind the head of a block, `{ element } END ;`, where the head has this place and this name. The
 /// tables of the dimension have these keys.
 pub fn body_at(
     alloc: Global,
     cursor: &mut Cursor<'_, Unwatched>,
-    head: u32,
+    head: Position,
     name: Name,
     table: TableKeys,
 ) -> Result<DimText, Stop<Refusal>>
@@ -103,20 +103,20 @@ fn block_at(alloc: Global, cursor: &mut Cursor<'_, Unwatched>) -> Result<DimText
 }
 
 // Why a block that begins with these tokens is refused.
-fn fault_of(tokens: TokensLeft<'_>, end_line: u32, stop: Stop<Refusal>) -> DimTextFault
-    ensures { Explains tokens.entry end_line stop result }
+fn fault_of(tokens: TokensLeft<'_>, end: Position, stop: Stop<Refusal>) -> DimTextFault
+    ensures { Explains tokens.entry end stop result }
 {
     match stop {
         Stop::Memory => DimTextFault {
-            line: 0,
+            at: Position::nowhere(),
             cause: DimTextCause::Memory,
         },
         Stop::Unexpected(left) => DimTextFault {
-            line: line_left(tokens, end_line, left),
+            at: position_left(tokens, end, left),
             cause: DimTextCause::Syntax,
         },
-        Stop::Refused(Refusal { line, fault }) => DimTextFault {
-            line,
+        Stop::Refused(Refusal { at, fault }) => DimTextFault {
+            at,
             cause: DimTextCause::Dim(fault),
         },
     }
@@ -129,11 +129,11 @@ pub fn read(
     tokens: &Tokens<'_>,
     from: usize,
 ) -> Result<(DimText, usize), DimTextFault>
-    ensures { Answers (drop from tokens.now.lexemes) tokens.now.end_line from result }
+    ensures { Answers (drop from tokens.now.lexemes) tokens.now.end from result }
 {
     let mut cursor = Cursor::new(tokens.left_from(from), Unwatched);
     match block_at(alloc, &mut cursor) {
         Ok(text) => Ok((text, tokens.len() - cursor.tokens.len())),
-        Err(stop) => Err(fault_of(tokens.left_from(from), tokens.end_line(), stop)),
+        Err(stop) => Err(fault_of(tokens.left_from(from), tokens.end(), stop)),
     }
 }

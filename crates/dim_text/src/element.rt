@@ -6,6 +6,7 @@ ghost use Rattle.dim_text.specs.Statement.{signed};
 ghost use Rattle.dim_text.specs.Readers.Views.{element_view, head_view};
 
 use crate::fault::Refusal;
+use cube_lex::Position;
 use dim_core::Name;
 use grammar::{
     Cursor, Item, Stop, Unwatched, listed, minus, name, sign, sign_comes, text, whole, word,
@@ -13,28 +14,28 @@ use grammar::{
 };
 use std::alloc::Global;
 
-/// A statement of a block, with the line of its first word.
+/// A statement of a block, with the place of its first word.
 #[derive(Drop)]
 pub enum Element {
-    Leaf(u32, Name),
+    Leaf(Position, Name),
     /// Its components, each with its weight.
-    Consolidated(u32, Name, Vec<(Name, i64)>),
+    Consolidated(Position, Name, Vec<(Name, i64)>),
     /// An element, the name of one of its attributes, and the text.
-    Attribute(u32, Name, Name, Vec<u8>),
+    Attribute(Position, Name, Name, Vec<u8>),
 }
 
-/// Reads the head of a block, `DIM name ;`, and gives its line and its name.
+/// Reads the head of a block, `DIM name ;`, and gives its place and its name.
 #[tactic(auto, unfolding(crate::specs::Readers::Reading::read_head))]
 pub fn head_at(
     alloc: Global,
     cursor: &mut Cursor<'_, Unwatched>,
-) -> Result<(u32, Name), Stop<Refusal>>
+) -> Result<(Position, Name), Stop<Refusal>>
     ensures { Reads head_view reading.read_head cursor.old result cursor.new }
 {
-    let line = word(cursor, b"DIM")?;
+    let position = word(cursor, b"DIM")?;
     let shown = name(alloc, cursor)?;
     sign(cursor, b";")?;
-    Ok((line, shown))
+    Ok((position, shown))
 }
 
 fn signed(negative: bool, n: u32) -> i64
@@ -106,10 +107,10 @@ fn parts_at(
 fn leaf_at(alloc: Global, cursor: &mut Cursor<'_, Unwatched>) -> Result<Element, Stop<Refusal>>
     ensures { Reads element_view reading.read_leaf cursor.old result cursor.new }
 {
-    let line = word(cursor, b"N")?;
+    let position = word(cursor, b"N")?;
     let shown = name(alloc, cursor)?;
     sign(cursor, b";")?;
-    Ok(Element::Leaf(line, shown))
+    Ok(Element::Leaf(position, shown))
 }
 
 /// Reads `C name [ : part { , part } ] ;`.
@@ -120,11 +121,11 @@ fn consolidated_at(
 ) -> Result<Element, Stop<Refusal>>
     ensures { Reads element_view reading.read_consolidated cursor.old result cursor.new }
 {
-    let line = word(cursor, b"C")?;
+    let position = word(cursor, b"C")?;
     let shown = name(alloc, cursor)?;
     let parts = parts_at(alloc, cursor)?;
     sign(cursor, b";")?;
-    Ok(Element::Consolidated(line, shown, parts))
+    Ok(Element::Consolidated(position, shown, parts))
 }
 
 /// Reads `A name name = Text ;`.
@@ -132,13 +133,13 @@ fn consolidated_at(
 fn attribute_at(alloc: Global, cursor: &mut Cursor<'_, Unwatched>) -> Result<Element, Stop<Refusal>>
     ensures { Reads element_view reading.read_attribute cursor.old result cursor.new }
 {
-    let line = word(cursor, b"A")?;
+    let position = word(cursor, b"A")?;
     let shown = name(alloc, cursor)?;
     let called = name(alloc, cursor)?;
     sign(cursor, b"=")?;
     let value = text(alloc, cursor)?;
     sign(cursor, b";")?;
-    Ok(Element::Attribute(line, shown, called, value))
+    Ok(Element::Attribute(position, shown, called, value))
 }
 
 /// Whether an element's statement comes.

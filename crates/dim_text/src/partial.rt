@@ -1,13 +1,15 @@
-ghost use Rattle.std.specs.Prelude.{◌≡◌, IfOk, Ok, slice_index};
+ghost use Rattle.std.specs.Prelude.{◌≡◌, IfOk, Ok, slice_index_or};
+ghost use Rattle.cube_lex.specs.Positions.{nowhere};
 ghost use Rattle.dim_core.specs.Refusal.{finish_refusal_of};
 ghost use Rattle.dim_text.specs.Building as building;
 ghost use Rattle.dim_text.specs.Building.{opened};
 ghost use Rattle.dim_text.specs.Statement.{Leaf, Consolidated, Attribute};
-ghost use Rattle.dim_text.specs.Readers.Views.{element_view, refused_on, Adds, Finishes};
+ghost use Rattle.dim_text.specs.Readers.Views.{element_view, refused_at, Adds, Finishes};
 
 use crate::element::Element;
 use crate::fault::Refusal;
 use crate::text::Block;
+use cube_lex::Position;
 use dim_core::{Builder, DimFault, Name};
 use grammar::Stop;
 use lists::TableKeys;
@@ -17,10 +19,10 @@ use std::marker::Model;
 /// A dimension that is being built, statement by statement.
 #[derive(Drop)]
 pub struct PartialBlock {
-    head: u32,
+    head: Position,
     builder: Builder,
-    lines: Vec<u32>,
-    attribute_lines: Vec<u32>,
+    positions: Vec<Position>,
+    attribute_positions: Vec<Position>,
 }
 
 impl Model for PartialBlock {
@@ -32,87 +34,90 @@ impl Model for PartialBlock {
     ghost view = { λ block. record {
       head = block.head;
       draft = block.builder;
-      lines = block.lines.items;
-      attribute_lines = block.attribute_lines.items;
+      positions = block.positions.items;
+      attribute_positions = block.attribute_positions.items;
     } };
 
-    ghost invariant = { λ block. length block.lines.items ≡ length block.builder.elements };
+    ghost invariant = { λ block. length block.positions.items ≡ length block.builder.elements };
 }
 
-// Why the builder refused a statement on this line.
-fn refused(line: u32, fault: DimFault) -> Stop<Refusal>
-    ensures { result ≡ refused_on line fault }
+// Why the builder refused a statement at this place.
+fn refused(position: Position, fault: DimFault) -> Stop<Refusal>
+    ensures { result ≡ refused_at position fault }
 {
     match fault {
         DimFault::Memory => Stop::Memory,
-        fault => Stop::Refused(Refusal { line, fault }),
+        fault => Stop::Refused(Refusal {
+            at: position,
+            fault,
+        }),
     }
 }
 
 impl PartialBlock {
-    /// Behind the head on this line. The tables of the dimension have these keys.
+    /// Behind the head at this place. The tables of the dimension have these keys.
     pub fn new(
         alloc: Global,
-        line: u32,
+        position: Position,
         name: Name,
         table: TableKeys,
     ) -> Result<PartialBlock, AllocError>
-        ensures { IfOk result (λ block. block ≡ opened line name) }
+        ensures { IfOk result (λ block. block ≡ opened position name) }
     {
         Ok(PartialBlock {
-            head: line,
+            head: position,
             builder: Builder::keyed(alloc, name, table)?,
-            lines: Vec::new(alloc),
-            attribute_lines: Vec::new(alloc),
+            positions: Vec::new(alloc),
+            attribute_positions: Vec::new(alloc),
         })
     }
 
     // Defines an element without components.
-    fn add_leaf(&mut self, line: u32, name: Name) -> Result<(), Stop<Refusal>>
-        ensures { Adds result self.new (building.add self.old (Leaf line name)) }
+    fn add_leaf(&mut self, position: Position, name: Name) -> Result<(), Stop<Refusal>>
+        ensures { Adds result self.new (building.add self.old (Leaf position name)) }
     {
-        self.lines.reserve(1)?;
+        self.positions.reserve(1)?;
         match self.builder.leaf(name) {
             Ok(()) => {
-                self.lines.push_reserved(line);
+                self.positions.push_reserved(position);
                 Ok(())
             }
-            Err(fault) => Err(refused(line, fault)),
+            Err(fault) => Err(refused(position, fault)),
         }
     }
 
     // Defines an element with its components.
     fn add_consolidated(
         &mut self,
-        line: u32,
+        position: Position,
         name: Name,
         components: Vec<(Name, i64)>,
     ) -> Result<(), Stop<Refusal>>
-        ensures { Adds result self.new (building.add self.old (Consolidated line name components.items)) }
+        ensures { Adds result self.new (building.add self.old (Consolidated position name components.items)) }
     {
-        self.lines.reserve(1)?;
+        self.positions.reserve(1)?;
         match self.builder.consolidated(name, components) {
             Ok(()) => {
-                self.lines.push_reserved(line);
+                self.positions.push_reserved(position);
                 Ok(())
             }
-            Err(fault) => Err(refused(line, fault)),
+            Err(fault) => Err(refused(position, fault)),
         }
     }
 
     // Gives an element the text of an attribute.
     fn add_attribute(
         &mut self,
-        line: u32,
+        position: Position,
         element: Name,
         attribute: Name,
         text: Vec<u8>,
     ) -> Result<(), Stop<Refusal>>
-        ensures { Adds result self.new (building.add self.old (Attribute line element attribute text.items)) }
+        ensures { Adds result self.new (building.add self.old (Attribute position element attribute text.items)) }
     {
-        self.attribute_lines.reserve(1)?;
+        self.attribute_positions.reserve(1)?;
         self.builder.attribute(element, attribute, text)?;
-        self.attribute_lines.push_reserved(line);
+        self.attribute_positions.push_reserved(position);
         Ok(())
     }
 
@@ -121,12 +126,12 @@ impl PartialBlock {
         ensures { Adds result self.new (building.add self.old (element_view element)) }
     {
         match element {
-            Element::Leaf(line, name) => self.add_leaf(line, name),
-            Element::Consolidated(line, name, components) => self.add_consolidated(
-                line, name, components,
+            Element::Leaf(position, name) => self.add_leaf(position, name),
+            Element::Consolidated(position, name, components) => self.add_consolidated(
+                position, name, components,
             ),
-            Element::Attribute(line, element, attribute, text) => self.add_attribute(
-                line, element, attribute, text,
+            Element::Attribute(position, element, attribute, text) => self.add_attribute(
+                position, element, attribute, text,
             ),
         }
     }
@@ -138,35 +143,35 @@ impl PartialBlock {
         let PartialBlock {
             head,
             builder,
-            lines,
-            attribute_lines,
+            positions,
+            attribute_positions,
         } = self;
         match builder.finish() {
-            Ok(dimension) => Ok(Block::new(head, dimension, lines)),
-            Err(fault) => Err(refused(line_of(&lines, &attribute_lines, &fault), fault)),
+            Ok(dimension) => Ok(Block::new(head, dimension, positions)),
+            Err(fault) => Err(refused(place_of(&positions, &attribute_positions, &fault), fault)),
         }
     }
 }
 
-// The line at this place, or 0.
-fn line_at(lines: &[u32], at: usize) -> u32
-    ensures { result ≡ slice_index lines.now at }
+// The place that is listed there; where there is none, nowhere.
+fn place_at(positions: &[Position], at: usize) -> Position
+    ensures { result ≡ slice_index_or positions.now at nowhere }
 {
-    match lines.get(at) {
-        Some(line) => *line,
-        None => 0,
+    match positions.get(at) {
+        Some(position) => *position,
+        None => Position::nowhere(),
     }
 }
 
-// The line of the statement that a fault of the whole dimension names.
-fn line_of(lines: &[u32], attribute_lines: &[u32], fault: &DimFault) -> u32
-    ensures { result ≡ building.line_of lines.now attribute_lines.now fault.now }
+// The place of the statement that a fault of the whole dimension names.
+fn place_of(positions: &[Position], attribute_positions: &[Position], fault: &DimFault) -> Position
+    ensures { result ≡ building.place_of positions.now attribute_positions.now fault.now }
 {
     match fault {
-        DimFault::UnknownComponent(element) => line_at(lines, *element as usize),
+        DimFault::UnknownComponent(element) => place_at(positions, *element as usize),
         // Attribute statements are counted from 1.
-        DimFault::BadAttribute(at) => line_at(attribute_lines, at.saturating_sub(1) as usize),
-        DimFault::Loop(element) => line_at(lines, *element as usize),
-        _ => 0,
+        DimFault::BadAttribute(at) => place_at(attribute_positions, at.saturating_sub(1) as usize),
+        DimFault::Loop(element) => place_at(positions, *element as usize),
+        _ => Position::nowhere(),
     }
 }

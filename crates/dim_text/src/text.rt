@@ -1,12 +1,13 @@
+use cube_lex::Position;
 use dim_core::Dimension;
 use std::marker::Model;
 
-/// What a block's statements have built: its dimension, and the lines of its head and of its elements' statements.
+/// What a block's statements have built: its dimension, and the places of its head and of its elements' statements.
 #[derive(Drop)]
 pub struct Block {
-    head: u32,
+    head: Position,
     dimension: Dimension,
-    lines: Vec<u32>,
+    positions: Vec<Position>,
 }
 
 impl Model for Block {
@@ -15,27 +16,27 @@ impl Model for Block {
 
     ghost Value = { Text };
 
-    ghost view = { λ t. record { head = t.head; dimension = t.dimension; lines = t.lines.items } };
+    ghost view = { λ t. record { head = t.head; dimension = t.dimension; positions = t.positions.items } };
 
-    ghost invariant = { λ t. length t.lines.items ≡ length t.dimension.elements };
+    ghost invariant = { λ t. length t.positions.items ≡ length t.dimension.elements };
 }
 
 impl Block {
     ghost use Rattle.std.specs.Prelude.{◌≡◌, length};
 
-    pub(crate) fn new(head: u32, dimension: Dimension, lines: Vec<u32>) -> Block
-        requires { length lines.items ≡ length dimension.elements }
-        ensures { result ≡ record { head = head; dimension = dimension; lines = lines.items } }
+    pub(crate) fn new(head: Position, dimension: Dimension, positions: Vec<Position>) -> Block
+        requires { length positions.items ≡ length dimension.elements }
+        ensures { result ≡ record { head = head; dimension = dimension; positions = positions.items } }
     {
         Block {
             head,
             dimension,
-            lines,
+            positions,
         }
     }
 }
 
-/// A dimension as it stands in a model file: with the lines of its head and of its elements' statements. Its names and
+/// A dimension as it stands in a model file: with the places of its head and of its elements' statements. Its names and
 /// texts can be written as tokens, as they came from tokens.
 #[derive(Drop)]
 pub struct DimText {
@@ -54,7 +55,8 @@ impl Model for DimText {
 }
 
 impl DimText {
-    ghost use Rattle.std.specs.Prelude.{◌≡◌, ◌<◌, length, slice_index};
+    ghost use Rattle.std.specs.Prelude.{◌≡◌, ◌<◌, length, slice_index_or};
+    ghost use Rattle.cube_lex.specs.Positions.{nowhere};
     ghost use Rattle.dim_text.specs.Writable.{IsWritable};
 
     pub(crate) fn new(block: Block) -> DimText
@@ -72,7 +74,7 @@ impl DimText {
         &self.block.dimension
     }
 
-    /// The same, without the lines.
+    /// The same, without the places.
     pub fn into_dimension(self) -> Dimension
         ensures { result ≡ self.dimension }
     {
@@ -80,21 +82,21 @@ impl DimText {
         let Block {
             head: _,
             dimension,
-            lines: _,
+            positions: _,
         } = block;
         dimension
     }
 
-    /// The line of an element's statement: of its first word.
-    pub fn line(&self, element: u32) -> u32
+    /// The place of an element's statement: of its first word.
+    pub fn position(&self, element: u32) -> Position
         requires { element < length self.now.dimension.elements }
-        ensures { result ≡ slice_index self.now.lines element }
+        ensures { result ≡ slice_index_or self.now.positions element nowhere }
     {
-        self.block.lines[element as usize]
+        self.block.positions[element as usize]
     }
 
-    /// The line of its `DIM`.
-    pub fn head(&self) -> u32
+    /// The place of its `DIM`.
+    pub fn head(&self) -> Position
         ensures { result ≡ self.now.head }
     {
         self.block.head

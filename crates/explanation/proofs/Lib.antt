@@ -1,2 +1,7 @@
 mod Takes
-mod FirstTokens
+pub mod Tokens
+mod Begins
+mod Suffixes
+mod LineParts
+mod StatementTable
+mod Onward

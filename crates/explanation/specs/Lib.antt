@@ -1,3 +1,8 @@
 pub mod Places
-pub mod Begins
+pub mod Statements
+pub mod Operands
+pub mod Written
+pub mod Limits
 pub mod Explanation
+pub mod Cursor
+pub mod Tables

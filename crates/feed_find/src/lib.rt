@@ -3,7 +3,7 @@
 //! The N part of a statement has to be 0 wherever its cell is neither stored nor fed. [`find`] goes over it as the zero
 //! test does, chooses references that make it 0 once feeders cover them, and turns each of these round. Read in this
 //! order: `specs/Choosing.antt`, which references are chosen; `specs/Found.antt`, what is found for a model; and
-//! `specs/Added.antt`, the model with it, which [`with_found`] makes.
+//! `specs/Added.antt`, the model with it, which [`with_found`] makes. [`choose`] answers for one reference.
 #![tactic(auto)]
 
 mod added;
@@ -25,6 +25,9 @@ mod truths;
 mod unturned;
 
 pub use added::with_found;
+pub use asked::Asked;
+pub use choice::{Choice, choose};
 pub use chosen::FoundFeeder;
+pub use kept::Kept;
 pub use search::{Found, find};
 pub use unturned::Unturned;

@@ -1,3 +1,4 @@
+use cube_lex::Position;
 use lists::ListOf;
 
 /// Which file is refused, where in it, and why. The answer is the first refusal of the first pass that has one.
@@ -9,10 +10,11 @@ pub struct Refusal {
     pub cause: Cause,
 }
 
-/// A place in a file. All count from 1.
+/// A place in a file. Statements and feeders count from 1.
 #[derive(Clone, Copy, Debug, PartialEq, Eq)]
 pub enum FilePlace {
-    Line(u32),
+    /// A place of its text.
+    Text(Position),
     /// A statement of a rule file.
     Statement(u32),
     /// A feeder of a rule file.
@@ -85,6 +87,6 @@ pub enum Cause {
     NotFed(u32),
     /// So many cells are fed where nothing is stored, one more than 4,000,000, also where there are more still.
     FedLimit(u64),
-    /// A load of a script that isn't in the model. The line has the load's first word.
+    /// A load of a script that isn't in the model. The place is that of the load's first word.
     UnknownScript,
 }

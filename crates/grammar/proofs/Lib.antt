@@ -13,7 +13,7 @@ pub mod WholeTexts
 pub mod OneAnswer
 pub mod After
 pub mod Picks
-pub mod WithLines
+pub mod WithPlaces
 pub mod Kept
 pub mod Spells
 pub mod Lists

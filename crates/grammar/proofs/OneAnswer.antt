@@ -3,10 +3,11 @@ use Rattle.std.proofs.Common.{◌≡◌, ℕ, List, [], ◌∷◌, ◌++◌, sym
 use Rattle.cube_lex.specs.Lexeme.{Lexeme}
 use Rattle.cube_lex.specs.declared.fault.LexFault.{LexFault}
 use Rattle.cube_lex.proofs.Unique.{reading-only}
+use Rattle.cube_lex.specs.declared.position.Position.{Position}
 use Rattle.grammar.specs.Grammar.{Grammar, Alive}
 use Rattle.grammar.specs.Watch.{Watch, Passes, Within, Refuses}
 use Rattle.grammar.specs.Reading.{Unexpected, Refused, OutOfTurns, Read, Reader}
-use Rattle.grammar.specs.Whole.{IsWholeText, FailsBefore, line_of, IsWholeSyntax, IsWholeRefused, HasOneAnswer}
+use Rattle.grammar.specs.Whole.{IsWholeText, FailsBefore, place_of, IsWholeSyntax, IsWholeRefused, HasOneAnswer}
 use Rattle.grammar.proofs.Exact.{Exact, Outcome, Agrees}
 use Rattle.grammar.proofs.Many.{IsSettled}
 use Rattle.grammar.proofs.Cuts.{Cuts, Longer, fronts, passes_not_refused, refuses_once, within_not_refused}
@@ -38,12 +39,12 @@ module _ {A R C : Type 0} (G : Grammar Lexeme A) (W : Watch Lexeme R C) (start :
     by (inl l) = let (_, same) = no_longer fault u x v y fu av l in same
     by (inr l) = let (_, same) = no_longer fault v y u x fv au l in sym same
 
-  one_line_is : (bytes : List ℕ) (k l : ℕ) → IsWholeSyntax G W start bytes k → IsWholeSyntax G W start bytes l → k ≡ l
-  one_line_is bytes k l h g =
+  one_place_is : (bytes : List ℕ) (k l : Position) → IsWholeSyntax G W start bytes k → IsWholeSyntax G W start bytes l → k ≡ l
+  one_place_is bytes k l h g =
       let (lexed, fault) = reading-only bytes h.lexed g.lexed h.fault g.fault h.reading g.reading in
       let fails : FailsBefore G h.fault g.before g.rest = subst (λ f. FailsBefore G f g.before g.rest) (sym fault) g.fails in
       let same : h.rest ≡ g.rest = same_place h.fault h.before h.rest g.before g.rest h.fails h.alive fails g.alive (sym h.parts ∙ ap (λ z. z.lexemes) lexed ∙ g.parts) in
-      h.place ∙ ap (line_of h.lexed) same ∙ ap (λ z. line_of z g.rest) lexed ∙ sym g.place
+      h.place ∙ ap (place_of h.lexed) same ∙ ap (λ z. place_of z g.rest) lexed ∙ sym g.place
 
   text_alive : (ts : List Lexeme) (x : A) → G ts x → Alive G ts
   text_alive ts x h = ([], x, subst (λ z. G z x) (sym (append-nil ts)) h)
@@ -53,7 +54,7 @@ module _ {A R C : Type 0} (G : Grammar Lexeme A) (W : Watch Lexeme R C) (start :
   not_failing ts before [] x h e fails = fails x (subst (λ z. G z x) (e ∙ append-nil before) h)
   not_failing ts before (t ∷ rest) x h e fails = not_followed G None before t rest rest fails (subst (Alive G) e (text_alive ts x h))
 
-  no_syntax_is : (bytes : List ℕ) (x : A) (r : R) (k : ℕ) → IsWholeText G W start bytes x r → IsWholeSyntax G W start bytes k → ⊥
+  no_syntax_is : (bytes : List ℕ) (x : A) (r : R) (k : Position) → IsWholeText G W start bytes x r → IsWholeSyntax G W start bytes k → ⊥
   no_syntax_is bytes x r k h g =
       let (lexed, fault) = reading-only bytes h.lexed g.lexed None g.fault h.reading g.reading in
       not_failing h.lexed.lexemes g.before g.rest x h.text.text (ap (λ z. z.lexemes) lexed ∙ g.parts) (subst (λ f. FailsBefore G f g.before g.rest) (sym fault) g.fails)
@@ -76,7 +77,7 @@ module _ {A R C : Type 0} (G : Grammar Lexeme A) (W : Watch Lexeme R C) (start :
         let (same, _) = no_longer fault b x p y fails alive l in
         within_not_refused W cuts start c b p [] within refused (sym same ∙ sym (append-nil p))
 
-    one_fault_is : (bytes : List ℕ) (k : ℕ) (c : C) → IsWholeSyntax G W start bytes k → IsWholeRefused G W start bytes c → ⊥
+    one_fault_is : (bytes : List ℕ) (k : Position) (c : C) → IsWholeSyntax G W start bytes k → IsWholeRefused G W start bytes c → ⊥
     one_fault_is bytes k c h g =
         let (lexed, fault) = reading-only bytes h.lexed g.lexed h.fault g.fault h.reading g.reading in
         let front : List Lexeme = g.refused.before ++ g.refused.last ∷ [] in
@@ -93,7 +94,7 @@ module _ {A R C : Type 0} (G : Grammar Lexeme A) (W : Watch Lexeme R C) (start :
       pub one_answer : HasOneAnswer G W start
       one_answer = record {
         one_tree = one_tree_is;
-        one_line = one_line_is;
+        one_place = one_place_is;
         one_cause = one_cause_is;
         no_syntax = no_syntax_is;
         no_refusal = no_refusal_is;

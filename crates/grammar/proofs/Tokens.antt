@@ -3,12 +3,14 @@ use Rattle.std.proofs.Common.{◌≡◌, ◌<◌, ℕ, zero, suc, slice_index, a
 use Rattle.std.specs.Str.{bytes_eq, str_eq_ignore_ascii_case, str_to_ascii_lowercase}
 use Rattle.std.proofs.lemmas.Slice.Eq.{bytes_eq-Decides}
 use Rattle.cube_lex.specs.Lexeme.{Lexeme}
+use Rattle.cube_lex.specs.Positions.{nowhere, position_of}
 use Rattle.cube_lex.specs.declared.token.Kind.{Kind}
 use Rattle.cube_lex.specs.declared.token.Kind.TheVariants as kinds
 use Rattle.grammar.specs.Grammar.{Grammar, one}
 use Rattle.grammar.specs.Watch.{each_token}
 use Rattle.grammar.specs.Reading.{take_one}
 use Rattle.cube_lex.specs.Quoted.{unquoted}
+use Rattle.cube_lex.specs.declared.position.Position.{Position}
 use Rattle.dim_name.specs.Name.{is_name}
 use Rattle.std.specs.Str.Parse.{digits_value}
 use Rattle.cube_fixed.specs.Text.{number_with, number_of, reading_of}
@@ -41,12 +43,12 @@ sign_tells a b t x e =
     let (kind, bytes) = and_is (is_sign_kind t.kind) (bytes_eq t.piece a) is in
     ap (λ k. k && bytes_eq t.piece b) kind ∙ ap (λ piece. bytes_eq piece b) (same_bytes t.piece a bytes)
 
-pub word_is : (w : List ℕ) (t : Lexeme) → is_word w t ≡ true → word w t ≡ Some t.line
-word_is w t is = ap (λ b. if b then Some t.line else None) is
+pub word_is : (w : List ℕ) (t : Lexeme) → is_word w t ≡ true → word w t ≡ Some (position_of t)
+word_is w t is = ap (λ b. if b then Some (position_of t) else None) is
 
-pub word_tells : (a b : List ℕ) (t : Lexeme) (x : ℕ) → word a t ≡ Some x → is_word b t ≡ str_eq_ignore_ascii_case a b
+pub word_tells : (a b : List ℕ) (t : Lexeme) (x : Position) → word a t ≡ Some x → is_word b t ≡ str_eq_ignore_ascii_case a b
 word_tells a b t x e =
-    let (is, _) = when_picks (is_word a) (λ t. t.line) t x e in
+    let (is, _) = when_picks (is_word a) position_of t x e in
     let (kind, bytes) = and_is (is_word_kind t.kind) (str_eq_ignore_ascii_case t.piece a) is in
     ap (λ k. k && str_eq_ignore_ascii_case t.piece b) kind ∙ ap (λ low. bytes_eq low (str_to_ascii_lowercase b)) (same_bytes (str_to_ascii_lowercase t.piece) (str_to_ascii_lowercase a) bytes)
 
@@ -98,7 +100,7 @@ sign_no_word a b = begins_one (sign a) (is_word b) false (λ t x e.
 
 pub word_no_sign : (a b : List ℕ) → Begins (one (word a)) (is_sign b) false
 word_no_sign a b = begins_one (word a) (is_sign b) false (λ t x e.
-    let (is, _) = when_picks (is_word a) (λ t. t.line) t x e in
+    let (is, _) = when_picks (is_word a) position_of t x e in
     let (kind, _) = and_is (is_word_kind t.kind) (str_eq_ignore_ascii_case t.piece a) is in
     no_sign t.kind (bytes_eq t.piece b) (or_first (is_word_kind t.kind) (is_text_kind t.kind) (is_number_kind t.kind) kind))
 
@@ -125,7 +127,7 @@ pub exact_sign : {R C : Type 0} (scan : R → Lexeme → Result R C) (a : List �
 exact_sign scan a = exact_one scan (sign a) (sample_of kinds.Sign a) tt (ap (λ b. if b then Some tt else None) (bytes_eq_self a))
 
 pub exact_word : {R C : Type 0} (scan : R → Lexeme → Result R C) (a : List ℕ) → Exact (each_token scan) (one (word a)) (one (word a)) (take_one scan (word a)) Always
-exact_word scan a = exact_one scan (word a) (sample_of kinds.Word a) 0 (ap (λ b. if b then Some 0 else None) (bytes_eq_self (str_to_ascii_lowercase a)))
+exact_word scan a = exact_one scan (word a) (sample_of kinds.Word a) nowhere (ap (λ b. if b then Some nowhere else None) (bytes_eq_self (str_to_ascii_lowercase a)))
 
 -- `'a'`
 pub exact_text : {R C : Type 0} (scan : R → Lexeme → Result R C) → Exact (each_token scan) (one text) (one text) (take_one scan text) Always

@@ -3,7 +3,7 @@ use Rattle.std.proofs.Common.{◌≡◌, ℕ, List, [], ◌∷◌, ◌++◌, len
 use Rattle.std.proofs.Math.Seq.{drop-append_seam}
 use Rattle.grammar.specs.Grammar.{Grammar, done, both}
 use Rattle.grammar.specs.Watch.{Watch}
-use Rattle.grammar.specs.Fault.{IsText, Fails, line_at, IsSyntax, IsRefused}
+use Rattle.grammar.specs.Fault.{IsText, Fails, place_at, IsSyntax, IsRefused}
 use Rattle.grammar.specs.Reading.{Unexpected, Refused, Reader, first, finish, whole}
 use Rattle.grammar.proofs.Exact.{Exact, Outcome, IsRead, IsStuck, IsStopped, Agrees, passes_nothing, within_nothing, exact_by, exact_both, exact_before, exact_gives}
 
@@ -36,16 +36,16 @@ left_behind text rest left e =
     let place : length (text ++ rest) - left ≡ length text = omega (arith, length-append text rest, e) in
     ap (λ n. drop n (text ++ rest)) place ∙ drop-append_seam text rest
 
--- Where a reader of a text's beginning stops: the fault is one of the grammar, on the line of the token there.
-pub stuck_told : {T R C A : Type 0} {W : Watch T R C} {G : Grammar T A} {P : Reader T R C A} {S : List T → Type 0} → Exact W G G P S → S [] → (line : T → ℕ) (end_line : ℕ) (n : R) (ts : List T) (left : ℕ) → P n ts ≡ Err (Unexpected left) → IsSyntax line G W n ts end_line (line_at line end_line (drop (length ts - left) ts))
+-- Where a reader of a text's beginning stops: the fault is one of the grammar, at the place of the token there.
+pub stuck_told : {T Q R C A : Type 0} {W : Watch T R C} {G : Grammar T A} {P : Reader T R C A} {S : List T → Type 0} → Exact W G G P S → S [] → (place : T → Q) (end : Q) (n : R) (ts : List T) (left : ℕ) → P n ts ≡ Err (Unexpected left) → IsSyntax place G W n ts end (place_at place end (drop (length ts - left) ts))
 unfolding Outcome
-stuck_told {W = W} {G = G} {P = P} e nothing line end_line n ts left stuck =
+stuck_told {W = W} {G = G} {P = P} e nothing place end n ts left stuck =
     let f : IsStuck G W P n ts left = subst (Outcome G W P n ts) stuck (e.sound n ts) in
     record {
       before = f.text;
       rest = f.rest;
       parts = f.parts;
-      place = ap (line_at line end_line) (ap (λ x. drop (length x - left) x) f.parts ∙ left_behind f.text f.rest left f.left_is);
+      place = ap (place_at place end) (ap (λ x. drop (length x - left) x) f.parts ∙ left_behind f.text f.rest left f.left_is);
       alive = f.alive;
       within = f.within;
       fails = stuck_fails e nothing n f.text f.rest f.alone;

@@ -2,6 +2,7 @@
 use Rattle.std.proofs.Common.{◌≡◌, ℕ, ◌-◌, List, [], ◌∷◌, ◌++◌, length, drop, Option, Some, None, Result, Ok, Err, refl, sym, ◌∙◌, ap, subst}
 use Rattle.cube_lex.specs.Lexed.{Lexed}
 use Rattle.cube_lex.specs.Lexeme.{Lexeme}
+use Rattle.cube_lex.specs.Positions.{position_of}
 use Rattle.cube_lex.specs.Reading.{IsReading}
 use Rattle.cube_lex.specs.declared.fault.LexFault.{LexFault}
 use Rattle.grammar.specs.Grammar.{Grammar}
@@ -9,7 +10,7 @@ use Rattle.grammar.specs.Watch.{Watch}
 use Rattle.grammar.specs.Cursor.{Gives, Reads}
 use Rattle.grammar.specs.Fault.{IsText, Fails, IsSyntax}
 use Rattle.grammar.specs.Reading.{Unexpected, Refused, Reader, first}
-use Rattle.grammar.specs.Whole.{IsWholeText, FailsBefore, line_of, IsWholeSyntax, IsWholeRefused, AnswersWhole, answer_of_text}
+use Rattle.grammar.specs.Whole.{IsWholeText, FailsBefore, place_of, IsWholeSyntax, IsWholeRefused, AnswersWhole, answer_of_text}
 use Rattle.grammar.specs.declared.answer.TextFault.{TextFault}
 use Rattle.grammar.specs.declared.cursor.Cursor.{Cursor}
 use Rattle.grammar.specs.declared.stop.Stop.{Stop}
@@ -32,7 +33,7 @@ whole_read_told {W = W} {G = G} e n bytes lexed a m reading read =
       append_nil (t ∷ ts) = ap (λ x. t ∷ x) (append_nil ts)
 
 -- a text is read, and a token or a lexical fault comes behind it
-pub whole_left_told : {R C A : Type 0} {W : Watch Lexeme R C} {G : Grammar Lexeme A} {P : Reader Lexeme R C A} {S : List Lexeme → Type 0} → Exact W G G P S → S [] → (n : R) (bytes : List ℕ) (lexed : Lexed) (fault : Option LexFault) (a : A) (m : R) (rest : List Lexeme) → IsReading bytes lexed fault → P n lexed.lexemes ≡ Ok (a, m, rest) → ((rest ≡ []) → (f : LexFault) × (fault ≡ Some f)) → IsWholeSyntax G W n bytes (line_of lexed rest)
+pub whole_left_told : {R C A : Type 0} {W : Watch Lexeme R C} {G : Grammar Lexeme A} {P : Reader Lexeme R C A} {S : List Lexeme → Type 0} → Exact W G G P S → S [] → (n : R) (bytes : List ℕ) (lexed : Lexed) (fault : Option LexFault) (a : A) (m : R) (rest : List Lexeme) → IsReading bytes lexed fault → P n lexed.lexemes ≡ Ok (a, m, rest) → ((rest ≡ []) → (f : LexFault) × (fault ≡ Some f)) → IsWholeSyntax G W n bytes (place_of lexed rest)
 unfolding Outcome
 whole_left_told {W = W} {G = G} {P = P} e nothing n bytes lexed fault a m rest reading read more =
     let f : IsRead G W P n lexed.lexemes a m rest = subst (Outcome G W P n lexed.lexemes) read (e.sound n lexed.lexemes) in
@@ -61,9 +62,9 @@ whole_left_told {W = W} {G = G} {P = P} e nothing n bytes lexed fault a m rest r
       behind text (t ∷ rest) more alone = fails_before G fault text (t ∷ rest) (short_fails e nothing n m a text t rest alone)
 
 -- no text is read
-pub whole_stuck_told : {R C A : Type 0} {W : Watch Lexeme R C} {G : Grammar Lexeme A} {P : Reader Lexeme R C A} {S : List Lexeme → Type 0} → Exact W G G P S → S [] → (n : R) (bytes : List ℕ) (lexed : Lexed) (fault : Option LexFault) (left : ℕ) → IsReading bytes lexed fault → P n lexed.lexemes ≡ Err (Unexpected left) → IsWholeSyntax G W n bytes (line_of lexed (drop (length lexed.lexemes - left) lexed.lexemes))
+pub whole_stuck_told : {R C A : Type 0} {W : Watch Lexeme R C} {G : Grammar Lexeme A} {P : Reader Lexeme R C A} {S : List Lexeme → Type 0} → Exact W G G P S → S [] → (n : R) (bytes : List ℕ) (lexed : Lexed) (fault : Option LexFault) (left : ℕ) → IsReading bytes lexed fault → P n lexed.lexemes ≡ Err (Unexpected left) → IsWholeSyntax G W n bytes (place_of lexed (drop (length lexed.lexemes - left) lexed.lexemes))
 whole_stuck_told {W = W} {G = G} e nothing n bytes lexed fault left reading stuck =
-    let f : IsSyntax (λ t. t.line) G W n lexed.lexemes lexed.end_line (line_of lexed (drop (length lexed.lexemes - left) lexed.lexemes)) = stuck_told e nothing (λ t. t.line) lexed.end_line n lexed.lexemes left stuck in
+    let f : IsSyntax position_of G W n lexed.lexemes lexed.end (place_of lexed (drop (length lexed.lexemes - left) lexed.lexemes)) = stuck_told e nothing position_of lexed.end n lexed.lexemes left stuck in
     record {
       lexed = lexed;
       fault = fault;

@@ -1,6 +1,8 @@
 -- What private functions say of a cursor.
 use Rattle.std.specs.Prelude.{◌≡◌, ℕ, List, [], ◌∷◌, Option, Some, Result, Ok, Err}
 use Rattle.cube_lex.specs.Lexeme.{Lexeme}
+use Rattle.cube_lex.specs.Positions.{position_of, nowhere}
+use Rattle.cube_lex.specs.declared.position.Position.{Position}
 use Rattle.grammar.specs.declared.stop.Stop.{Stop}
 use Rattle.grammar.specs.declared.stop.Stop.TheVariants as stops
 use Rattle.grammar.specs.declared.cursor.Cursor.{Cursor}
@@ -22,7 +24,7 @@ Reads view P old result new =
 abbrev pub any_token : Lexeme → Option (Unit {0})
 any_token t = Some tt
 
--- the line of the next token; where there is none, 0
-abbrev pub next_line : List Lexeme → ℕ
-next_line [] = 0
-next_line (t ∷ ts) = t.line
+-- the place of the next token; where there is none, line 0
+abbrev pub next_position : List Lexeme → Position
+next_position [] = nowhere
+next_position (t ∷ ts) = position_of t

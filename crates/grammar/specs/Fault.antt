@@ -14,20 +14,19 @@ abbrev pub Fails : {T A : Type 0} → Grammar T A → List T → List T → Type
 Fails G before [] = (tree : _) → G before tree → ⊥
 Fails G before (t ∷ rest) = Alive G (before ++ t ∷ []) → ⊥
 
--- the line of what follows: of its first token, or of the text's end
-abbrev pub line_at : {T : Type 0} → (T → ℕ) → ℕ → List T → ℕ
-line_at line end_line [] = end_line
-line_at line end_line (t ∷ rest) = line t
+-- the place of what follows: of its first token, or of the text's end
+abbrev pub place_at : {T P : Type 0} → (T → P) → P → List T → P
+place_at place end [] = end
+place_at place end (t ∷ rest) = place t
 
--- the first fault is one of the grammar: the tokens up to it begin a text in which nothing is refused, and it stands on
--- this line
-pub record IsSyntax {T A R C : Type 0}
-    (line : T → ℕ) (G : Grammar T A) (W : Watch T R C) (start : R) (ts : List T)
-    (end_line : ℕ) (at_line : ℕ) : Type 0 where
+-- the first fault is one of the grammar: the tokens up to it begin a text in which nothing is refused, and it stands at
+-- this place
+pub record IsSyntax {T P A R C : Type 0}
+    (place_of : T → P) (G : Grammar T A) (W : Watch T R C) (start : R) (ts : List T) (end at : P) : Type 0 where
   pub before : List T
   pub rest : List T
   pub parts : ts ≡ before ++ rest
-  pub place : at_line ≡ line_at line end_line rest
+  pub place : at ≡ place_at place_of end rest
   pub alive : Alive G before
   pub within : Within W start before
   pub fails : Fails G before rest

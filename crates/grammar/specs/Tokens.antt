@@ -7,7 +7,9 @@ use Rattle.std.specs.Char.{is_ascii_digit, to_ascii_uppercase}
 use Rattle.std.specs.List.{list_all}
 use Rattle.std.specs.Str.Parse.{digits_value}
 use Rattle.cube_lex.specs.Lexeme.{Lexeme}
+use Rattle.cube_lex.specs.Positions.{position_of}
 use Rattle.cube_lex.specs.Quoted.{unquoted}
+use Rattle.cube_lex.specs.declared.position.Position.{Position}
 use Rattle.cube_fixed.specs.Text.{number_of, reading_of}
 use Rattle.dim_name.specs.Name.{is_name}
 use Rattle.cube_lex.specs.declared.token.Kind.{Kind}
@@ -42,9 +44,9 @@ is_word word t = is_word_kind t.kind && str_eq_ignore_ascii_case t.piece word
 abbrev pub when : {T A : Type 0} → (T → Bool) → (T → A) → T → Option A
 when p value t = if p t then Some (value t) else None
 
--- what pick takes, with its line
-abbrev pub located : {A : Type 0} → (Lexeme → Option A) → Lexeme → Option (ℕ × A)
-located pick t = option_map (λ a. (t.line, a)) (pick t)
+-- what pick takes, with its place
+abbrev pub located : {A : Type 0} → (Lexeme → Option A) → Lexeme → Option (Position × A)
+located pick t = option_map (λ a. (position_of t, a)) (pick t)
 
 -- whether it's a word, a number, or a quoted text
 abbrev pub is_any_word : Lexeme → Bool
@@ -60,9 +62,9 @@ is_text t = is_text_kind t.kind
 abbrev pub sign : List ℕ → Lexeme → Option (Unit {0})
 sign bytes = when (is_sign bytes) (λ _. tt)
 
--- this word, which gives its line
-abbrev pub word : List ℕ → Lexeme → Option ℕ
-word bytes = when (is_word bytes) (λ t. t.line)
+-- this word, which gives its place
+abbrev pub word : List ℕ → Lexeme → Option Position
+word bytes = when (is_word bytes) position_of
 
 -- a quoted text, which gives its bytes
 abbrev pub text : Lexeme → Option (List ℕ)

@@ -1,18 +1,18 @@
 ghost use Rattle.std.specs.Prelude.{◌≡◌};
 ghost use Rattle.grammar.specs.Whole as whole;
 
-use crate::cursor::{Cursor, line_left};
+use crate::cursor::{Cursor, position_left};
 use crate::stop::Stop;
-use cube_lex::TextTokens;
+use cube_lex::{Position, TextTokens};
 
 /// Why a whole text is refused.
 #[derive(Debug, Drop)]
 pub enum TextFault<C> {
     /// Out of memory.
     Memory,
-    /// The line of the first token with which the tokens so far begin no text. A lexical fault counts as such a token.
-    /// Where all tokens begin a text but are none, it is the line of the text's end.
-    Syntax(u32),
+    /// The place of the first token with which the tokens so far begin no text. A lexical fault counts as such a token.
+    /// Where all tokens begin a text but are none, it is the place of the text's end.
+    Syntax(Position),
     /// A cause of the watch.
     Refused(C),
 }
@@ -24,19 +24,19 @@ pub fn answer_of_text<X: Drop, C, S>(
     read: Result<X, Stop<C>>,
     cursor: &Cursor<'_, S>,
 ) -> Result<X, TextFault<C>>
-    ensures { result ≡ whole.answer_of_text (record { lexemes = tokens.now.left; end_line = tokens.now.end_line })
+    ensures { result ≡ whole.answer_of_text (record { lexemes = tokens.now.left; end = tokens.now.end })
         tokens.now.fault read cursor.now.tokens }
 {
     match read {
         Ok(value) => match (tokens.fault, cursor.tokens.first()) {
             (None, None) => Ok(value),
-            (_, Some(token)) => Err(TextFault::Syntax(token.line)),
-            (_, None) => Err(TextFault::Syntax(tokens.end_line)),
+            (_, Some(token)) => Err(TextFault::Syntax(token.position())),
+            (_, None) => Err(TextFault::Syntax(tokens.end)),
         },
         Err(Stop::Memory) => Err(TextFault::Memory),
         Err(Stop::Unexpected(left)) => {
-            let line = line_left(tokens.left.again(), tokens.end_line, left);
-            Err(TextFault::Syntax(line))
+            let position = position_left(tokens.left.again(), tokens.end, left);
+            Err(TextFault::Syntax(position))
         }
         Err(Stop::Refused(cause)) => Err(TextFault::Refused(cause)),
     }

@@ -9,7 +9,7 @@ ghost use Rattle.grammar.specs.Tokens as tokens;
 
 use crate::cursor::{Cursor, Scan};
 use crate::stop::Stop;
-use cube_lex::{Kind, Token};
+use cube_lex::{Kind, Position, Token};
 
 /// Whether the token is this sign.
 pub fn is_sign(token: &Token<'_>, sign: &[u8]) -> bool
@@ -116,15 +116,15 @@ pub fn minus<C, S: Scan<C>>(cursor: &mut Cursor<'_, S>) -> Result<bool, Stop<C>>
     }
 }
 
-/// Takes this word, and gives its line.
-pub fn word<C, S: Scan<C>>(cursor: &mut Cursor<'_, S>, word: &[u8]) -> Result<u32, Stop<C>>
-    ensures read { Reads (λ line. line) (take_one S.scanned (tokens.word word.now)) cursor.old result cursor.new }
+/// Takes this word, and gives its place.
+pub fn word<C, S: Scan<C>>(cursor: &mut Cursor<'_, S>, word: &[u8]) -> Result<Position, Stop<C>>
+    ensures read { Reads (λ at. at) (take_one S.scanned (tokens.word word.now)) cursor.old result cursor.new }
     ensures shorter { OnOk result (length cursor.new.tokens < length cursor.old.tokens) }
 {
     match cursor.peek() {
         Some(token) if is_word(&token, word) => {
             cursor.advance()?;
-            Ok(token.line)
+            Ok(token.position())
         }
         _ => Err(cursor.unexpected()),
     }

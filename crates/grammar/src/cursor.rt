@@ -1,12 +1,13 @@
 ghost use Rattle.std.specs.Prelude.{◌≡◌, ◌<◌, ◌-◌, drop, length, OnOk, IfErr, Result, Ok, Err};
 ghost use Rattle.std.specs.Option.{option_map};
 ghost use Rattle.cube_lex.specs.Lexeme.{Lexeme, lexeme_of};
-ghost use Rattle.grammar.specs.Fault.{line_at};
+ghost use Rattle.cube_lex.specs.Positions.{position_of};
+ghost use Rattle.grammar.specs.Fault.{place_at};
 ghost use Rattle.grammar.specs.Reading.{first, take_one};
-ghost use Rattle.grammar.specs.Cursor.{Reads, any_token, next_line};
+ghost use Rattle.grammar.specs.Cursor.{Reads, any_token, next_position};
 
 use crate::stop::Stop;
-use cube_lex::{Token, TokensLeft};
+use cube_lex::{Position, Token, TokensLeft};
 
 /// What a text is watched by, token by token: the state that its limits and further causes `C` depend on.
 pub trait Scan<C> {
@@ -41,13 +42,13 @@ impl<'a, S> Cursor<'a, S> {
         self.tokens.first()
     }
 
-    /// The line of the next token; at the text's end, 0.
-    pub fn line(&self) -> u32
-        ensures { result ≡ next_line self.now.tokens }
+    /// The place of the next token; at the text's end, line 0.
+    pub fn position(&self) -> Position
+        ensures { result ≡ next_position self.now.tokens }
     {
         match self.peek() {
-            Some(token) => token.line,
-            None => 0,
+            Some(token) => token.position(),
+            None => Position::nowhere(),
         }
     }
 
@@ -90,15 +91,15 @@ impl<C> Scan<C> for Unwatched {
     }
 }
 
-/// The line of the place at which so many of these tokens are left: that of the next token, or of the text's end.
-pub fn line_left(mut tokens: TokensLeft<'_>, end_line: u32, left: usize) -> u32
-    ensures { result ≡ line_at (λ t. t.line) end_line (drop (length tokens.entry - left) tokens.entry) }
+/// The place at which so many of these tokens are left: that of the next token, or of the text's end.
+pub fn position_left(mut tokens: TokensLeft<'_>, end: Position, left: usize) -> Position
+    ensures { result ≡ place_at position_of end (drop (length tokens.entry - left) tokens.entry) }
 {
     'token: for _ in 0..tokens.len().saturating_sub(left) {
         tokens.advance();
     }
     match tokens.first() {
-        Some(token) => token.line,
-        None => end_line,
+        Some(token) => token.position(),
+        None => end,
     }
 }

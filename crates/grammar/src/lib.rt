@@ -22,7 +22,7 @@ pub use basic::{
     any_word_comes, end, is_sign, is_word, minus, number_comes, sign, sign_comes, text_comes, word,
     word_comes,
 };
-pub use cursor::{Cursor, Scan, Unwatched, line_left};
+pub use cursor::{Cursor, Scan, Unwatched, position_left};
 pub use list::{Item, RepeatedItem, further, listed, names, repeated, repeated_behind};
 pub use literals::{file, money};
 pub use located::{located_file, located_name, located_whole};

@@ -8,31 +8,32 @@ use crate::cursor::{Cursor, Scan};
 use crate::literals::file;
 use crate::stop::Stop;
 use crate::values::{name, whole};
+use cube_lex::Position;
 use dim_name::Name;
 use lists::ListOf;
 use std::alloc::Global;
 
-/// Takes a quoted text that is a name, and gives it with its line.
+/// Takes a quoted text that is a name, and gives it with its place.
 pub fn located_name<C, S: Scan<C>>(
     alloc: Global,
     cursor: &mut Cursor<'_, S>,
-) -> Result<(u32, Name), Stop<C>>
+) -> Result<(Position, Name), Stop<C>>
     ensures read { Reads (λ pair. pair) (take_one S.scanned (located tokens.name)) cursor.old result cursor.new }
     ensures shorter { OnOk result (length cursor.new.tokens < length cursor.old.tokens) }
 {
-    let line = cursor.line();
+    let position = cursor.position();
     let name = name(alloc, cursor)?;
-    Ok((line, name))
+    Ok((position, name))
 }
 
-/// Takes a whole number, which is below 2^31, and gives it with its line.
-pub fn located_whole<C, S: Scan<C>>(cursor: &mut Cursor<'_, S>) -> Result<(u32, u32), Stop<C>>
+/// Takes a whole number, which is below 2^31, and gives it with its place.
+pub fn located_whole<C, S: Scan<C>>(cursor: &mut Cursor<'_, S>) -> Result<(Position, u32), Stop<C>>
     ensures read { Reads (λ pair. pair) (take_one S.scanned (located tokens.whole)) cursor.old result cursor.new }
     ensures shorter { OnOk result (length cursor.new.tokens < length cursor.old.tokens) }
 {
-    let line = cursor.line();
+    let position = cursor.position();
     let number = whole(cursor)?;
-    Ok((line, number))
+    Ok((position, number))
 }
 
 // Takes a quoted text that names a file.
@@ -47,15 +48,15 @@ fn file_list<C, S: Scan<C>>(
     Ok(ListOf::new(bytes))
 }
 
-/// Takes a quoted text that names a file, and gives it with its line.
+/// Takes a quoted text that names a file, and gives it with its place.
 pub fn located_file<C, S: Scan<C>>(
     alloc: Global,
     cursor: &mut Cursor<'_, S>,
-) -> Result<(u32, ListOf<u8>), Stop<C>>
+) -> Result<(Position, ListOf<u8>), Stop<C>>
     ensures read { Reads (λ pair. pair) (take_one S.scanned (located tokens.file)) cursor.old result cursor.new }
     ensures shorter { OnOk result (length cursor.new.tokens < length cursor.old.tokens) }
 {
-    let line = cursor.line();
+    let position = cursor.position();
     let bytes = file_list(alloc, cursor)?;
-    Ok((line, bytes))
+    Ok((position, bytes))
 }

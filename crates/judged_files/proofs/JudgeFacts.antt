@@ -15,7 +15,7 @@ use Rattle.file_passes.specs.declared.halt.Halt.{Halt}
 use Rattle.file_passes.specs.declared.refusal.Cause.{Cause}
 use Rattle.file_passes.specs.declared.refusal.Refusal.{Refusal}
 use Rattle.file_passes.specs.Pass.{Source, Judgement}
-use Rattle.judged_files.specs.Refusals.{refused_on, model_cause, deploy_refusal}
+use Rattle.judged_files.specs.Refusals.{refused_at, model_cause, deploy_refusal}
 use Rattle.judged_files.specs.Models.{text_judgement}
 use Rattle.judged_files.specs.Rules.{rule_files, stage_judgement, deployment_judgement, binding_judgement}
 use Rattle.file_passes.specs.Halting.{Judges}
@@ -31,12 +31,12 @@ judges-halt J found h (inr (refusal, some, is)) refused = rw is (refused refusal
 
 module _ (source : Source) (file bytes : List ℕ) (named : file ≡ source.0) (read : bytes ≡ source.1) where
   pub judges-fault : (fault : ModelTextFault) (found : Option Cause) (h : Halt)
-      → IsFault bytes fault.line fault.cause → found ≡ model_cause fault.cause → IsHaltFor (option_map (refused_on file fault.line) found) h
+      → IsFault bytes fault.at fault.cause → found ≡ model_cause fault.cause → IsHaltFor (option_map (refused_at file fault.at) found) h
       → Judges (text_judgement source) (Err h)
   judges-fault fault found h first is halted =
-      let here : IsFault source.1 fault.line fault.cause = rw (← read) first in
-      let for : IsHaltFor (option_map (refused_on source.0 fault.line) (model_cause fault.cause)) h = rw (← named, ← is) halted in
-      judges-halt (text_judgement source) (option_map (refused_on source.0 fault.line) (model_cause fault.cause)) h for
+      let here : IsFault source.1 fault.at fault.cause = rw (← read) first in
+      let for : IsHaltFor (option_map (refused_at source.0 fault.at) (model_cause fault.cause)) h = rw (← named, ← is) halted in
+      judges-halt (text_judgement source) (option_map (refused_at source.0 fault.at) (model_cause fault.cause)) h for
       (λ refusal some. record { fault = fault; first = here; is = some })
 
   pub judges-text : (contents : Contents) → IsModelText bytes contents → IsModelText source.1 contents

@@ -15,7 +15,7 @@ use Rattle.user_text.specs.declared.command.UserBody.{UserBody}
 use Rattle.user_text.specs.declared.command.UserBody.TheVariants as bodies
 use Rattle.user_text.specs.declared.command.UserCommand.{UserCommand}
 use Rattle.judged_files.specs.Loads.{file_of, user_files, record_files, IsReady, AreReady}
-use Rattle.judged_files.specs.Refusals.{refused_on}
+use Rattle.judged_files.specs.Refusals.{refused_at}
 use Rattle.judged_files.specs.ModelFiles.{ModelFiles}
 use Rattle.judged_files.specs.Scripts.{AreScripts}
 use Rattle.judged_files.specs.Users.{AreUserTexts, AreUsers, is_unknown_load, is_unknown, AreKnown, unknown_script}
@@ -70,7 +70,7 @@ module _ (scripts : List (List ℕ)) where
   none-unknown before [] (commands ∷ rest) texts none = absurd texts
   none-unknown before (source ∷ more) [] texts none = absurd texts
   none-unknown before (source ∷ more) (commands ∷ rest) texts none =
-      let told : UserCommand → Refusal = λ command. refused_on source.0 command.line UnknownScript in
+      let told : UserCommand → Refusal = λ command. refused_at source.0 command.at UnknownScript in
       let both = neither (option_map told (find (is_unknown scripts) commands)) (unknown_script scripts more rest) none in
       all-more (All (λ command. is_unknown scripts command ≡ false)) commands rest
       (none-found (is_unknown scripts) commands (unmapped told (find (is_unknown scripts) commands) both.0))

@@ -2,6 +2,7 @@
 use Rattle.std.proofs.Common.{◌≡◌, ◌∙◌, ℕ, ◌+◌, ◌<◌, List, [], ◌∷◌, ◌++◌, length, length-take, map, take, get_or, slice_index_or, bytes_eq, Option, Some, None, option_map, option_and_then, true, sym, ap, arith}
 use Rattle.std.proofs.lemmas.List.{map-append, take_more, get_or-take, get_or-map}
 use Rattle.std.proofs.lemmas.Slice.Eq.{bytes_eq-Decides}
+use Rattle.cube_lex.specs.declared.position.Position.{Position}
 use Rattle.model_text.specs.declared.parts.CubeText.{CubeText}
 use Rattle.model_bind.specs.Files.{RuleFile}
 use Rattle.file_passes.specs.Pass.{Source, source_of}
@@ -13,8 +14,8 @@ abbrev named : List Source → Option (List ℕ) → Option RuleFile
 named sources name = option_map rule_file_of (option_and_then (source_of sources) name)
 
 -- a cube that has rules names their file
-pub its-name : (cubes : List CubeText) (k line : ℕ) (item : CubeText) (name : List ℕ) → item ≡ get_or cubes k item → (get_or cubes k item).rules ≡ Some (line, name) → rule_name item ≡ Some name
-its-name cubes k line item name is has = ap rule_name is ∙ ap (option_map (λ rules. rules.1)) has
+pub its-name : (cubes : List CubeText) (k : ℕ) (place : Position) (item : CubeText) (name : List ℕ) → item ≡ get_or cubes k item → (get_or cubes k item).rules ≡ Some (place, name) → rule_name item ≡ Some name
+its-name cubes k place item name is has = ap rule_name is ∙ ap (option_map (λ rules. rules.1)) has
 
 module _ (cubes : List CubeText) (item : CubeText) where
   -- a cube that names a file

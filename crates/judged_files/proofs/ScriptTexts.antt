@@ -3,6 +3,7 @@ use Rattle.std.proofs.Common.{◌≢◌, ℕ, List, [], ◌∷◌, ◌++◌, Opt
 use Rattle.cube_lex.specs.Lexeme.{Lexeme}
 use Rattle.cube_lex.specs.declared.fault.LexFault.{LexFault}
 use Rattle.cube_lex.proofs.Unique.{reading-only}
+use Rattle.cube_lex.specs.declared.position.Position.{Position}
 use Rattle.grammar.specs.Fault.{Fails}
 use Rattle.grammar.specs.Grammar.{Grammar, Alive}
 use Rattle.grammar.specs.Watch.{Watch}
@@ -40,8 +41,8 @@ module _ {A R C : Type 0} (G : Grammar Lexeme A) (W : Watch Lexeme R C) (begin :
   text-texts : (bytes : List ℕ) (a : A) (r : R) → IsWholeText G W begin bytes a r → IsWholeText (texts G) W begin bytes tt r
   text-texts bytes a r is = record { lexed = is.lexed; reading = is.reading; text = record { text = (a, is.text.text); passes = is.text.passes } }
 
-  syntax-texts : (bytes : List ℕ) (line : ℕ) → IsWholeSyntax G W begin bytes line → IsWholeSyntax (texts G) W begin bytes line
-  syntax-texts bytes line is = record {
+  syntax-texts : (bytes : List ℕ) (place : Position) → IsWholeSyntax G W begin bytes place → IsWholeSyntax (texts G) W begin bytes place
+  syntax-texts bytes place is = record {
     lexed = is.lexed;
     fault = is.fault;
     reading = is.reading;
@@ -81,10 +82,10 @@ both_starts {P} {Q} bytes (lexed, fault, reading, p) (other, later, again, q) cl
 abbrev IsTree : List ℕ → Script → Counted → Type 0
 IsTree bytes tree s = (c : Counted) × IsWholeText script counting s bytes tree c
 
-no_syntax : (bytes : List ℕ) (tree : Script) (line : ℕ) → FromStart bytes (IsTree bytes tree) → FromStart bytes (λ s. IsWholeSyntax script counting s bytes line) → ⊥
-no_syntax bytes tree line p q =
-    both_starts {P = IsTree bytes tree} {Q = λ s. IsWholeSyntax script counting s bytes line} bytes p q
-    (λ s is fails. (script_texts s).no_syntax bytes tt is.0 line (text-texts script counting s bytes tree is.0 is.1) (syntax-texts script counting s bytes line fails))
+no_syntax : (bytes : List ℕ) (tree : Script) (place : Position) → FromStart bytes (IsTree bytes tree) → FromStart bytes (λ s. IsWholeSyntax script counting s bytes place) → ⊥
+no_syntax bytes tree place p q =
+    both_starts {P = IsTree bytes tree} {Q = λ s. IsWholeSyntax script counting s bytes place} bytes p q
+    (λ s is fails. (script_texts s).no_syntax bytes tt is.0 place (text-texts script counting s bytes tree is.0 is.1) (syntax-texts script counting s bytes place fails))
 
 no_refusal : (bytes : List ℕ) (tree : Script) (excess : Excess) → FromStart bytes (IsTree bytes tree) → FromStart bytes (λ s. IsWholeRefused script counting s bytes excess) → ⊥
 no_refusal bytes tree excess p q =
@@ -92,7 +93,7 @@ no_refusal bytes tree excess p q =
     (λ s is refused. (script_texts s).no_refusal bytes tt is.0 excess (text-texts script counting s bytes tree is.0 is.1) (refused-texts script counting s bytes excess refused))
 
 pub no_fault_of_script : (bytes : List ℕ) (tree : Script) (fault : ScriptFault) → fault ≢ faults.Memory → Answers bytes (Ok tree) → Answers bytes (Err fault) → ⊥
-no_fault_of_script bytes tree (faults.Syntax line) some p q = no_syntax bytes tree line p q
-no_fault_of_script bytes tree (faults.UnknownFunction line) some p q = no_refusal bytes tree (excesses.UnknownFunction line) p q
-no_fault_of_script bytes tree (faults.TooDeep line) some p q = no_refusal bytes tree (excesses.TooDeep line) p q
+no_fault_of_script bytes tree (faults.Syntax place) some p q = no_syntax bytes tree place p q
+no_fault_of_script bytes tree (faults.UnknownFunction place) some p q = no_refusal bytes tree (excesses.UnknownFunction place) p q
+no_fault_of_script bytes tree (faults.TooDeep place) some p q = no_refusal bytes tree (excesses.TooDeep place) p q
 no_fault_of_script bytes tree faults.Memory some p q = some refl

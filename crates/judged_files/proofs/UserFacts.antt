@@ -17,8 +17,8 @@ use Rattle.judged_files.proofs.JudgeFacts.{judges-halt}
 -- a fault says the same of each view of what is read
 pub any_view : {X : Type 0} (view : X → List UserCommand) (bytes : List ℕ) (before : ℕ) (fault : UserFault)
     → Answers view bytes before (Err fault) → Answers {X = List UserCommand} (λ x. x) bytes before (Err fault)
-any_view view bytes before (faults.Syntax line) first = first
-any_view view bytes before (faults.TooMany line) first = first
+any_view view bytes before (faults.Syntax place) first = first
+any_view view bytes before (faults.TooMany place) first = first
 any_view view bytes before faults.Memory first = first
 
 -- the first texts were read: whatever the rest comes to behind these commands, all come to

@@ -10,7 +10,7 @@ use Rattle.judged_files.specs.Refusals.{text_refusal}
 -- the bytes are no model text, and this is the first fault
 pub record IsTextFault (source : Source) (refusal : Refusal) : Type 0 where
   pub fault : ModelTextFault
-  pub first : IsFault source.1 fault.line fault.cause
+  pub first : IsFault source.1 fault.at fault.cause
   pub is : text_refusal source.0 fault ≡ Some refusal
 
 abbrev pub text_judgement : Source → Judgement Contents

@@ -1,5 +1,6 @@
 -- Which refusal each fault of a text is. Out of memory is none.
 use Rattle.std.specs.Prelude.{ℕ, List, Option, Some, None, option_map}
+use Rattle.cube_lex.specs.declared.position.Position.{Position}
 use Rattle.dim_core.specs.declared.fault.DimFault.{DimFault}
 use Rattle.dim_core.specs.declared.fault.DimFault.TheVariants as dims
 use Rattle.model_bind.specs.declared.fault.At.{At}
@@ -17,12 +18,12 @@ use Rattle.user_text.specs.declared.fault.UserFault.TheVariants as users
 use Rattle.file_passes.specs.declared.refusal.Cause.{Cause}
 use Rattle.file_passes.specs.declared.refusal.Cause.TheVariants as causes
 use Rattle.file_passes.specs.declared.refusal.FilePlace.{FilePlace}
-use Rattle.file_passes.specs.declared.refusal.FilePlace.TheVariants.{Line, Statement, Feeder}
+use Rattle.file_passes.specs.declared.refusal.FilePlace.TheVariants.{Text, Statement, Feeder}
 use Rattle.file_passes.specs.declared.refusal.Refusal.{Refusal}
 
--- this file is refused on this line
-abbrev pub refused_on : List ℕ → ℕ → Cause → Refusal
-refused_on file line cause = record { file = file; at = Line line; cause = cause }
+-- this file is refused at this place
+abbrev pub refused_at : List ℕ → Position → Cause → Refusal
+refused_at file place cause = record { file = file; at = Text place; cause = cause }
 
 abbrev pub dim_cause : DimFault → Option Cause
 dim_cause dims.Duplicate = Some causes.Duplicate
@@ -69,10 +70,10 @@ deploy_cause deploys.Memory = None
 
 -- what is wrong with a model's text
 abbrev pub text_refusal : List ℕ → ModelTextFault → Option Refusal
-text_refusal file fault = option_map (refused_on file fault.line) (model_cause fault.cause)
+text_refusal file fault = option_map (refused_at file fault.at) (model_cause fault.cause)
 
 abbrev pub place_of : At → FilePlace
-place_of (places.Line line) = Line line
+place_of (places.Text place) = Text place
 place_of (places.Statement statement) = Statement statement
 place_of (places.Feeder feeder) = Feeder feeder
 
@@ -92,13 +93,13 @@ deploy_refusal model fault = option_map (deployment_refused model fault) (deploy
 
 -- what is wrong with a user's text
 abbrev pub user_refusal : List ℕ → UserFault → Option Refusal
-user_refusal file (users.Syntax line) = Some (refused_on file line causes.Syntax)
-user_refusal file (users.TooMany line) = Some (refused_on file line causes.TooMany)
+user_refusal file (users.Syntax place) = Some (refused_at file place causes.Syntax)
+user_refusal file (users.TooMany place) = Some (refused_at file place causes.TooMany)
 user_refusal file users.Memory = None
 
 -- what is wrong with the text of a script
 abbrev pub script_refusal : List ℕ → ScriptFault → Option Refusal
-script_refusal file (scripts.Syntax line) = Some (refused_on file line causes.Syntax)
-script_refusal file (scripts.UnknownFunction line) = Some (refused_on file line causes.UnknownFunction)
-script_refusal file (scripts.TooDeep line) = Some (refused_on file line causes.TooDeep)
+script_refusal file (scripts.Syntax place) = Some (refused_at file place causes.Syntax)
+script_refusal file (scripts.UnknownFunction place) = Some (refused_at file place causes.UnknownFunction)
+script_refusal file (scripts.TooDeep place) = Some (refused_at file place causes.TooDeep)
 script_refusal file scripts.Memory = None

@@ -11,7 +11,7 @@ use Rattle.user_text.specs.declared.fault.UserFault.{UserFault}
 use Rattle.file_passes.specs.declared.refusal.Cause.TheVariants.{UnknownScript}
 use Rattle.file_passes.specs.declared.refusal.Refusal.{Refusal}
 use Rattle.file_passes.specs.Pass.{Source, Judgement}
-use Rattle.judged_files.specs.Refusals.{refused_on, user_refusal}
+use Rattle.judged_files.specs.Refusals.{refused_at, user_refusal}
 
 -- behind so many commands of the users before, the bytes are a user's text with these commands
 abbrev pub IsUserText : ℕ → List ℕ → List UserCommand → Type 0
@@ -66,7 +66,7 @@ unknown_script scripts [] users = None
 unknown_script scripts (source ∷ more) [] = None
 unknown_script scripts (source ∷ more) (commands ∷ rest) =
     option_or
-    (option_map (λ command. refused_on source.0 command.line UnknownScript) (find (is_unknown scripts) commands))
+    (option_map (λ command. refused_at source.0 command.at UnknownScript) (find (is_unknown scripts) commands))
     (unknown_script scripts more rest)
 
 -- ---- all user files

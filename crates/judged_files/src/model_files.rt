@@ -76,6 +76,23 @@ impl ModelFiles {
     {
         Arc::try_clone(&self.rule_files)
     }
+
+    /// The same names, in a list of its own.
+    pub fn rule_file_names(&self, alloc: Global) -> Result<ListOf<ListOf<u8>>, AllocError>
+        ensures { IfOk result (λ names. names ≡ self.now.rule_files) }
+    {
+        copied(alloc, self.rule_files.as_slice())
+    }
+}
+
+fn copied(alloc: Global, texts: &[ListOf<u8>]) -> Result<ListOf<ListOf<u8>>, AllocError>
+    ensures { IfOk result (λ copies. copies ≡ texts.now) }
+{
+    let mut copies = Vec::with_capacity(alloc, texts.len())?;
+    for text in texts {
+        copies.push(ListOf::new(Vec::from_slice(alloc, text.as_slice())?))?;
+    }
+    Ok(ListOf::new(copies))
 }
 
 fn kept(

@@ -1,7 +1,7 @@
 ghost use Rattle.file_passes.specs.Halting.{Judges};
 ghost use Rattle.judged_files.specs.Models.{text_judgement};
 
-use crate::refusing::{halt_on, model_cause};
+use crate::refusing::{halt_at, model_cause};
 use file_passes::{Halt, Source};
 use model_text::{ModelText, read};
 use std::alloc::Global;
@@ -12,6 +12,6 @@ pub fn text_of(alloc: Global, source: &Source<'_>) -> Result<ModelText, Halt>
 {
     match read(alloc, source.bytes()) {
         Ok(text) => Ok(text),
-        Err(fault) => Err(halt_on(alloc, source.name(), fault.line, model_cause(&fault.cause))),
+        Err(fault) => Err(halt_at(alloc, source.name(), fault.at, model_cause(&fault.cause))),
     }
 }

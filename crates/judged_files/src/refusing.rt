@@ -1,7 +1,8 @@
 ghost use Rattle.std.specs.Prelude.{◌≡◌, IfOk, option_map};
 ghost use Rattle.judged_files.specs.Inside.Judging.{IsHaltFor};
-ghost use Rattle.judged_files.specs.Refusals.{refused_on, dim_cause, model_cause, deploy_cause};
+ghost use Rattle.judged_files.specs.Refusals.{refused_at, dim_cause, model_cause, deploy_cause};
 
+use cube_lex::Position;
 use dim_core::DimFault;
 use file_passes::{Cause, FilePlace, Halt, Refusal};
 use lists::ListOf;
@@ -9,31 +10,31 @@ use model_bind::DeployCause;
 use model_text::ModelTextCause;
 use std::alloc::{AllocError, Global};
 
-/// This file is refused on this line.
-pub(crate) fn refused_on(
+/// This file is refused at this place.
+pub(crate) fn refused_at(
     alloc: Global,
     file: &str,
-    line: u32,
+    place: Position,
     cause: Cause,
 ) -> Result<Refusal, AllocError>
-    ensures { IfOk result (λ refusal. refusal ≡ refused_on file.now line cause) }
+    ensures { IfOk result (λ refusal. refusal ≡ refused_at file.now place cause) }
 {
     Ok(Refusal {
         file: ListOf::new(Vec::from_slice(alloc, file.as_bytes())?),
-        at: FilePlace::Line(line),
+        at: FilePlace::Text(place),
         cause,
     })
 }
 
-/// Why a run goes no further with this file: for this cause on this line, or, where there is no cause, since it is out
-/// of memory.
-pub(crate) fn halt_on(alloc: Global, file: &str, line: u32, cause: Option<Cause>) -> Halt
-    ensures { IsHaltFor (option_map (refused_on file.now line) cause) result }
+/// Why a run goes no further with this file: for this cause at this place, or, where there is no cause, since it is
+/// out of memory.
+pub(crate) fn halt_at(alloc: Global, file: &str, place: Position, cause: Option<Cause>) -> Halt
+    ensures { IsHaltFor (option_map (refused_at file.now place) cause) result }
 {
     let Some(cause) = cause else {
         return Halt::Memory;
     };
-    match refused_on(alloc, file, line, cause) {
+    match refused_at(alloc, file, place, cause) {
         Ok(refusal) => Halt::Refused(refusal),
         Err(_) => Halt::Memory,
     }

@@ -169,7 +169,7 @@ fn place_of(at: At) -> FilePlace
     ensures { result ≡ place_of at }
 {
     match at {
-        At::Line(line) => FilePlace::Line(line),
+        At::Text(place) => FilePlace::Text(place),
         At::Statement(statement) => FilePlace::Statement(statement),
         At::Feeder(feeder) => FilePlace::Feeder(feeder),
     }

@@ -6,7 +6,7 @@ ghost use Rattle.judged_files.specs.Inside.Judging.{IsHaltFor};
 ghost use Rattle.judged_files.specs.Refusals.{script_refusal};
 ghost use Rattle.judged_files.specs.Scripts.{script_files, scripts_judgement};
 
-use crate::refusing::halt_on;
+use crate::refusing::halt_at;
 use dim_name::Name;
 use file_passes::{Cause, Halt, Source, file_name};
 use lists::ListOf;
@@ -68,11 +68,11 @@ fn script_halt(alloc: Global, file: &str, fault: &ScriptFault) -> Halt
     ensures { IsHaltFor (script_refusal file.now fault.now) result }
 {
     match fault {
-        ScriptFault::Syntax(line) => halt_on(alloc, file, *line, Some(Cause::Syntax)),
-        ScriptFault::UnknownFunction(line) => {
-            halt_on(alloc, file, *line, Some(Cause::UnknownFunction))
+        ScriptFault::Syntax(place) => halt_at(alloc, file, *place, Some(Cause::Syntax)),
+        ScriptFault::UnknownFunction(place) => {
+            halt_at(alloc, file, *place, Some(Cause::UnknownFunction))
         }
-        ScriptFault::TooDeep(line) => halt_on(alloc, file, *line, Some(Cause::TooDeep)),
+        ScriptFault::TooDeep(place) => halt_at(alloc, file, *place, Some(Cause::TooDeep)),
         ScriptFault::Memory => Halt::Memory,
     }
 }

@@ -7,7 +7,7 @@ ghost use Rattle.judged_files.specs.Refusals.{user_refusal};
 ghost use Rattle.judged_files.specs.Users.{is_unknown, is_unknown_load, unknown_script, users_judgement};
 ghost use Rattle.user_text.specs.Counting.{most_commands};
 
-use crate::refusing::{halt_on, refused_on};
+use crate::refusing::{halt_at, refused_at};
 use dim_name::Name;
 use file_passes::{Cause, Halt, Refusal, Source};
 use lists::ListOf;
@@ -57,8 +57,8 @@ fn user_halt(alloc: Global, file: &str, fault: &UserFault) -> Halt
     ensures { IsHaltFor (user_refusal file.now fault.now) result }
 {
     match fault {
-        UserFault::Syntax(line) => halt_on(alloc, file, *line, Some(Cause::Syntax)),
-        UserFault::TooMany(line) => halt_on(alloc, file, *line, Some(Cause::TooMany)),
+        UserFault::Syntax(place) => halt_at(alloc, file, *place, Some(Cause::Syntax)),
+        UserFault::TooMany(place) => halt_at(alloc, file, *place, Some(Cause::TooMany)),
         UserFault::Memory => Halt::Memory,
     }
 }
@@ -90,7 +90,7 @@ fn unknown_script(
             return Ok(None);
         };
         if let Some(command) = first_unknown(scripts, commands.as_slice()) {
-            let refusal = refused_on(alloc, source.name(), command.line, Cause::UnknownScript)?;
+            let refusal = refused_at(alloc, source.name(), command.at, Cause::UnknownScript)?;
             return Ok(Some(refusal));
         }
     }

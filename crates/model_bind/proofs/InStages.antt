@@ -2,6 +2,7 @@
 use Rattle.std.proofs.Common.{◌≡◌, ◌⊎◌, inl, inr, ℕ, Bool, [], Option, Some, None, Result, Ok, Err, List, length, map, refl, ap, sym, ◌∙◌, subst, IsErrAnd}
 use Rattle.std.specs.Option.{option_or}
 use Rattle.std.proofs.lemmas.List.{length-map}
+use Rattle.cube_lex.specs.declared.position.Position.{Position}
 use Rattle.cube_space.specs.Layout.{Layout}
 use Rattle.model_text.specs.Contents.{Contents}
 use Rattle.model_text.specs.declared.order.OrderLine.{OrderLine}
@@ -12,7 +13,7 @@ use Rattle.model_bind.specs.Files.{RuleFile}
 use Rattle.model_bind.specs.declared.bound.Bound.{Bound}
 use Rattle.model_bind.specs.declared.bound.BoundRules.{BoundRules}
 use Rattle.model_bind.specs.declared.fault.DeployFault.{DeployFault}
-use Rattle.model_bind.specs.Foundation.{layout_of, cube_lines, order_lines, shape_of, dimensions_refusal, space_refusal, products_refusal, foundation_refusal, memory, IsAnsweredBy}
+use Rattle.model_bind.specs.Foundation.{layout_of, cube_places, order_lines, shape_of, dimensions_refusal, space_refusal, products_refusal, foundation_refusal, memory, IsAnsweredBy}
 use Rattle.model_bind.specs.Stages.{Stage, found, unless, each, ◌>>=◌, Comes}
 use Rattle.bind_areas.specs.declared.cause.BindCause.TheVariants.{Memory}
 use Rattle.rule_bind.specs.declared.fault.BindFault.{BindFault}
@@ -31,7 +32,7 @@ pub as-many-cubes : (contents : Contents) (space : Layout) → space ≡ layout_
 as-many-cubes contents space is = ap (λ (s : Layout). length s.cubes) is ∙ length-map contents.cubes shape_of
 
 abbrev Lines : Type 0
-Lines = List (Option (ℕ × OrderLine))
+Lines = List (Option (Position × OrderLine))
 
 abbrev bound-of : List Bool → BoundModel → Bound
 bound-of asks model = record { model = model; asking = asks }
@@ -87,8 +88,8 @@ module _ (contents : Contents) (files : List (Option RuleFile)) where
   unfolding binding foundation_refusal
   apart answer came =
       let dimensions = dimensions_refusal contents.dims in
-      let cells = space_refusal (cube_lines contents.cubes) space in
-      let products = products_refusal (cube_lines contents.cubes) space in
+      let cells = space_refusal (cube_places contents.cubes) space in
+      let products = products_refusal (cube_places contents.cubes) space in
       let rules : Unit {0} → Stage Bound = λ _. rules_stage space lines files >>= ending space lines files in
       let ruled = behind (Unit {0}) Bound (unless (foundation_refusal contents)) rules bound answer (λ _ came. rules-in-turn answer came) came in
       let first = one-by-one Bound dimensions (option_or cells products) bound answer ruled in

@@ -4,6 +4,7 @@ use Rattle.std.specs.List.{IsDistinct}
 use Rattle.std.specs.Option.{option_or}
 use Rattle.std.proofs.lemmas.List.{length-map}
 use Rattle.std.proofs.lemmas.List.Elements.{All-map}
+use Rattle.cube_lex.specs.declared.position.Position.{Position}
 use Rattle.dim_name.specs.Name.{is_same_name}
 use Rattle.dim_core.specs.Outline.{Outline}
 use Rattle.dim_text.specs.Progress.{Text}
@@ -12,7 +13,7 @@ use Rattle.model_text.specs.declared.parts.CubeText.{CubeText}
 use Rattle.cube_space.specs.declared.shape.CubeShape.{CubeShape}
 use Rattle.cube_space.specs.Layout.{Layout, IsLayout}
 use Rattle.model_bind.specs.declared.fault.DeployFault.{DeployFault}
-use Rattle.model_bind.specs.Foundation.{shape_of, layout_of, cube_lines, dimensions_refusal, space_refusal, products_refusal, foundation_refusal, IsAnsweredBy}
+use Rattle.model_bind.specs.Foundation.{shape_of, layout_of, cube_places, dimensions_refusal, space_refusal, products_refusal, foundation_refusal, IsAnsweredBy}
 use Rattle.model_bind.proofs.Firsts.{refused-as}
 
 map-twice : {A B C : Type 0} (f : A → B) (g : B → C) (xs : List A) → map (λ x. g (f x)) xs ≡ map g (map f xs)
@@ -52,30 +53,30 @@ module _ (A B : Type 0) (contents : Contents) (fault : DeployFault) (answer : Re
   unfolding foundation_refusal
   coefficients-refused h =
       refused-as A B (dimensions_refusal contents.dims)
-      (option_or (space_refusal (cube_lines contents.cubes) (layout_of contents)) (products_refusal (cube_lines contents.cubes) (layout_of contents))) fault answer told h
+      (option_or (space_refusal (cube_places contents.cubes) (layout_of contents)) (products_refusal (cube_places contents.cubes) (layout_of contents))) fault answer told h
 
   -- the cells are refused
-  pub cells-refused : (lines : List ℕ) (layout : Layout) → lines ≡ cube_lines contents.cubes → layout ≡ layout_of contents → dimensions_refusal contents.dims ≡ None
+  pub cells-refused : (lines : List Position) (layout : Layout) → lines ≡ cube_places contents.cubes → layout ≡ layout_of contents → dimensions_refusal contents.dims ≡ None
       → IsAnsweredBy {T = A} (space_refusal lines layout) (Err fault) → IsAnsweredBy {T = B} (foundation_refusal contents) answer
   unfolding foundation_refusal
   cells-refused lines layout l s none h =
       let P : Option DeployFault → Type 0 = λ o. IsAnsweredBy {T = B} o answer in
-      let later = products_refusal (cube_lines contents.cubes) (layout_of contents) in
-      let same : space_refusal lines layout ≡ space_refusal (cube_lines contents.cubes) (layout_of contents) = rw (l, s) refl in
-      let whole = ap (λ o. option_or o (option_or (space_refusal (cube_lines contents.cubes) (layout_of contents)) later)) none in
+      let later = products_refusal (cube_places contents.cubes) (layout_of contents) in
+      let same : space_refusal lines layout ≡ space_refusal (cube_places contents.cubes) (layout_of contents) = rw (l, s) refl in
+      let whole = ap (λ o. option_or o (option_or (space_refusal (cube_places contents.cubes) (layout_of contents)) later)) none in
       subst P (ap (λ o. option_or o later) same ∙ sym whole) (refused-as A B (space_refusal lines layout) later fault answer told h)
 
   -- the weight products are refused
-  pub products-refused : (lines : List ℕ) (layout space : Layout) → lines ≡ cube_lines contents.cubes → layout ≡ layout_of contents → space ≡ layout → dimensions_refusal contents.dims ≡ None
+  pub products-refused : (lines : List Position) (layout space : Layout) → lines ≡ cube_places contents.cubes → layout ≡ layout_of contents → space ≡ layout → dimensions_refusal contents.dims ≡ None
       → space_refusal lines layout ≡ None → IsAnsweredBy {T = A} (products_refusal lines space) (Err fault) → IsAnsweredBy {T = B} (foundation_refusal contents) answer
   unfolding foundation_refusal
   products-refused lines layout space l s is none fits h =
       let P : Option DeployFault → Type 0 = λ o. IsAnsweredBy {T = B} o answer in
       let shown = is ∙ s in
-      let same : products_refusal lines space ≡ products_refusal (cube_lines contents.cubes) (layout_of contents) = rw (l, shown) refl in
-      let later = products_refusal (cube_lines contents.cubes) (layout_of contents) in
-      let cells : space_refusal (cube_lines contents.cubes) (layout_of contents) ≡ None = sym (rw (l, s) refl) ∙ fits in
-      let whole = ap (λ o. option_or o (option_or (space_refusal (cube_lines contents.cubes) (layout_of contents)) later)) none ∙ ap (λ o. option_or o later) cells in
+      let same : products_refusal lines space ≡ products_refusal (cube_places contents.cubes) (layout_of contents) = rw (l, shown) refl in
+      let later = products_refusal (cube_places contents.cubes) (layout_of contents) in
+      let cells : space_refusal (cube_places contents.cubes) (layout_of contents) ≡ None = sym (rw (l, s) refl) ∙ fits in
+      let whole = ap (λ o. option_or o (option_or (space_refusal (cube_places contents.cubes) (layout_of contents)) later)) none ∙ ap (λ o. option_or o later) cells in
       subst P (ap (λ o. option_or o None) same ∙ or-none later ∙ sym whole) (refused-as A B (products_refusal lines space) None fault answer told h)
     where
       or-none : (o : Option DeployFault) → option_or o None ≡ o
@@ -83,14 +84,14 @@ module _ (A B : Type 0) (contents : Contents) (fault : DeployFault) (answer : Re
       or-none (Some x) = refl
 
 -- nothing is refused
-pub nothing-refused : {T : Type 0} (contents : Contents) (lines : List ℕ) (layout space : Layout) (value : T) → lines ≡ cube_lines contents.cubes → layout ≡ layout_of contents → space ≡ layout
+pub nothing-refused : {T : Type 0} (contents : Contents) (lines : List Position) (layout space : Layout) (value : T) → lines ≡ cube_places contents.cubes → layout ≡ layout_of contents → space ≡ layout
     → dimensions_refusal contents.dims ≡ None → space_refusal lines layout ≡ None → products_refusal lines space ≡ None → IsAnsweredBy {T = T} (foundation_refusal contents) (Ok value)
 unfolding foundation_refusal
 nothing-refused {T} contents lines layout space value l s is none fits small =
     let P : Option DeployFault → Type 0 = λ o. IsAnsweredBy {T = T} o (Ok value) in
-    let later = products_refusal (cube_lines contents.cubes) (layout_of contents) in
+    let later = products_refusal (cube_places contents.cubes) (layout_of contents) in
     let shown = is ∙ s in
-    let cells : space_refusal (cube_lines contents.cubes) (layout_of contents) ≡ None = sym (rw (l, s) refl) ∙ fits in
+    let cells : space_refusal (cube_places contents.cubes) (layout_of contents) ≡ None = sym (rw (l, s) refl) ∙ fits in
     let products : later ≡ None = sym (rw (l, shown) refl) ∙ small in
-    let whole = ap (λ o. option_or o (option_or (space_refusal (cube_lines contents.cubes) (layout_of contents)) later)) none ∙ ap (λ o. option_or o later) cells ∙ products in
+    let whole = ap (λ o. option_or o (option_or (space_refusal (cube_places contents.cubes) (layout_of contents)) later)) none ∙ ap (λ o. option_or o later) cells ∙ products in
     subst P (sym whole) tt

@@ -2,6 +2,7 @@
 use Rattle.std.proofs.Common.{◌≡◌, refl, sym, ap, if◌then◌else◌, ◌∙◌, subst, ℕ, ◌+◌, Bool, true, false, Option, Some, None, Result, Ok, Err, List, [], ◌∷◌, All}
 use Rattle.std.specs.Prelude.{⊤, option_map, slice_index_or}
 use Rattle.std.proofs.lemmas.List.Elements.{All-nil, All-cons, All-head, All-tail}
+use Rattle.cube_lex.specs.declared.position.Position as texts
 use Rattle.cube_space.specs.Layout.{Layout, axes}
 use Rattle.model_text.specs.declared.order.OrderLine.{OrderLine}
 use Rattle.rule_tree.specs.declared.rule.RuleText.{RuleText}
@@ -44,12 +45,12 @@ meant-is : (name : Option (List ℕ)) (meaning : Result CubeRules BindFault) (ru
 meant-is name (Ok own) rules is = let same : own ≡ rules = cc is in ap (λ (r : CubeRules). Ok r) same
 meant-is name (Err fault) rules is = absurd (cc is)
 
-module _ (space : Layout) (lines : List (Option (ℕ × OrderLine))) (files : List (Option RuleFile)) where
+module _ (space : Layout) (lines : List (Option (texts.Position × OrderLine))) (files : List (Option RuleFile)) where
   meaning-lag : (cube : ℕ) (text : RuleText) (rules : CubeRules) → ⊤ → (meaning_stage space files cube text).finds rules → HasOneLag rules
   meaning-lag cube text rules any is = text-lag space cube text rules (meant-is (file_name files cube) (rules_of space cube text) rules is)
 
   -- an order line that says nothing but the lag
-  said-lag : (cube line : ℕ) (own rules : CubeRules) (lag : Option Lag) → in_order own line (option_map (lag_order (axes space cube)) lag) ≡ Ok rules → HasOneLag rules
+  said-lag : (cube : ℕ) (line : texts.Position) (own rules : CubeRules) (lag : Option Lag) → in_order own line (option_map (lag_order (axes space cube)) lag) ≡ Ok rules → HasOneLag rules
   said-lag cube line own rules None is = absurd (cc is)
   said-lag cube line own rules (Some lag) is =
       let made : CubeRules = record { skipcheck = own.skipcheck; statements = own.statements; feeders = own.feeders; order = lag_order (axes space cube) lag } in
@@ -60,7 +61,7 @@ module _ (space : Layout) (lines : List (Option (ℕ × OrderLine))) (files : Li
       lists-alike true list = refl
       lists-alike false list = refl
 
-  line-lag : (automatic : Bool) → automatic ≡ true → (cube : ℕ) (own rules : CubeRules) (line : Option (ℕ × OrderLine)) → HasOneLag own → (by_line automatic space cube own line).finds rules
+  line-lag : (automatic : Bool) → automatic ≡ true → (cube : ℕ) (own rules : CubeRules) (line : Option (texts.Position × OrderLine)) → HasOneLag own → (by_line automatic space cube own line).finds rules
       → HasOneLag rules
   line-lag false on cube own rules line one is = absurd (cc)
   line-lag true on cube own rules None one is = subst HasOneLag (sym is) one

@@ -21,7 +21,7 @@ use Rattle.model_bind.specs.Files.{RuleFile}
 use Rattle.model_bind.specs.declared.bound.Bound.{Bound}
 use Rattle.model_bind.specs.declared.fault.DeployFault.{DeployFault}
 use Rattle.model_bind.specs.declared.fault.DeployCause.TheVariants as causes
-use Rattle.model_bind.specs.Foundation.{layout_of, cube_lines, order_lines}
+use Rattle.model_bind.specs.Foundation.{layout_of, cube_places, order_lines}
 use Rattle.model_bind.specs.Foundation.{dimensions_refusal, space_refusal, products_refusal}
 use Rattle.model_bind.specs.Rules.{refused_at, is_automatic, text_stage, meaning_stage, order_stage, asking}
 use Rattle.model_bind.specs.Stages.{Stage, found, unless, each, ◌>>=◌}
@@ -81,8 +81,8 @@ model_of contents rules = record { space = layout_of contents; rules = rules }
 unfoldable pub binding : Contents → List (Option RuleFile) → Stage Bound
 binding contents files = do
   _ ← unless (dimensions_refusal contents.dims)
-  _ ← unless (space_refusal (cube_lines contents.cubes) (layout_of contents))
-  _ ← unless (products_refusal (cube_lines contents.cubes) (layout_of contents))
+  _ ← unless (space_refusal (cube_places contents.cubes) (layout_of contents))
+  _ ← unless (products_refusal (cube_places contents.cubes) (layout_of contents))
   texts ← each (λ _. text_stage) 0 files
   meant ← each (meaning_stage (layout_of contents) files) 0 texts
   rules ← each (order_stage (layout_of contents) (order_lines contents.cubes)) 0 meant

@@ -3,6 +3,7 @@ use Rattle.std.specs.Prelude.{◌≡◌, ℕ, Bool, false, List, [], map, slice_
 use Rattle.std.specs.Prelude.{Option, Some, None, option_map, Result, Ok, Err}
 use Rattle.std.specs.List.{list_any}
 use Rattle.std.specs.Option.{option_map_or}
+use Rattle.cube_lex.specs.declared.position.Position.{Position}
 use Rattle.cube_space.specs.Layout.{Layout, axes}
 use Rattle.model_text.specs.Orders.{has_auto}
 use Rattle.model_text.specs.declared.order.OrderLine.{OrderLine}
@@ -23,20 +24,20 @@ use Rattle.rule_model.specs.declared.order.Order.{Order}
 use Rattle.model_bind.specs.Files.{RuleFile}
 use Rattle.model_bind.specs.declared.bound.BoundRules.{BoundRules}
 use Rattle.model_bind.specs.declared.fault.At.{At}
-use Rattle.model_bind.specs.declared.fault.At.TheVariants.{Line, Statement, Feeder}
+use Rattle.model_bind.specs.declared.fault.At.TheVariants.{Text, Statement, Feeder}
 use Rattle.model_bind.specs.declared.fault.DeployFault.{DeployFault}
 use Rattle.model_bind.specs.declared.fault.DeployCause.{DeployCause}
 use Rattle.model_bind.specs.declared.fault.DeployCause.TheVariants as causes
-use Rattle.model_bind.specs.Foundation.{refused_on}
+use Rattle.model_bind.specs.Foundation.{refused_in_model}
 use Rattle.model_bind.specs.Stages.{Stage, found, meant, each, ◌>>=◌}
 
 -- the name of a cube's rule file
 abbrev pub file_name : List (Option RuleFile) → ℕ → Option (List ℕ)
 file_name files cube = option_map (λ file. file.name) (slice_index_or files cube None)
 
--- a rule file is refused on this line
-abbrev pub refused_in : List ℕ → ℕ → DeployCause → DeployFault
-refused_in name line cause = record { file = Some name; at = Line line; cause = cause }
+-- a rule file is refused at this place
+abbrev pub refused_in : List ℕ → Position → DeployCause → DeployFault
+refused_in name place cause = record { file = Some name; at = Text place; cause = cause }
 
 -- the rule file of a cube is refused at this statement
 abbrev pub refused_at : List (Option RuleFile) → ℕ → ℕ → DeployCause → DeployFault
@@ -45,9 +46,9 @@ refused_at files cube statement cause =
 
 -- what is wrong with the text of a rule file; out of memory is nothing of it
 abbrev pub text_refusal : List ℕ → RuleFault → Option DeployFault
-text_refusal name (texts.Syntax line) = Some (refused_in name line causes.Syntax)
-text_refusal name (texts.TooDeep line) = Some (refused_in name line causes.TooDeep)
-text_refusal name (texts.TooMany line) = Some (refused_in name line causes.TooMany)
+text_refusal name (texts.Syntax place) = Some (refused_in name place causes.Syntax)
+text_refusal name (texts.TooDeep place) = Some (refused_in name place causes.TooDeep)
+text_refusal name (texts.TooMany place) = Some (refused_in name place causes.TooMany)
 text_refusal name texts.Memory = None
 
 -- without statements and feeders
@@ -85,10 +86,10 @@ meant_in name (Err fault) = Err (record { file = name; at = place_of fault.at; c
 abbrev pub meaning_stage : Layout → List (Option RuleFile) → ℕ → RuleText → Stage CubeRules
 meaning_stage space files cube text = meant (meant_in (file_name files cube) (rules_of space cube text))
 
--- rules in the order that a line means; where it means none it is refused on its line
-abbrev pub in_order : CubeRules → ℕ → Option Order → Result CubeRules DeployFault
-in_order rules line None = Err (refused_on line causes.BadOrder)
-in_order rules line (Some order) =
+-- rules in the order that a line means; where it means none it is refused at its place
+abbrev pub in_order : CubeRules → Position → Option Order → Result CubeRules DeployFault
+in_order rules place None = Err (refused_in_model place causes.BadOrder)
+in_order rules place (Some order) =
     Ok (record {
       skipcheck = rules.skipcheck;
       statements = rules.statements;
@@ -97,7 +98,7 @@ in_order rules line (Some order) =
     })
 
 -- whether the orders of a model are to be found: some order line says `AUTO`
-abbrev pub is_automatic : List (Option (ℕ × OrderLine)) → Bool
+abbrev pub is_automatic : List (Option (Position × OrderLine)) → Bool
 is_automatic lines = list_any (λ line. option_map_or (λ at. has_auto at.1.words) line false) lines
 
 -- the order that the lag alone makes which a line names; None where it has positions, or names no dimension of the cube
@@ -110,12 +111,12 @@ abbrev pub line_order : Bool → Layout → ℕ → OrderLine → Option Order
 line_order automatic space cube line = if automatic then lag_order_of space cube line else order_of space cube line
 
 -- the rules of a cube with the order that its order line means, where it has one
-abbrev pub by_line : Bool → Layout → ℕ → CubeRules → Option (ℕ × OrderLine) → Stage CubeRules
+abbrev pub by_line : Bool → Layout → ℕ → CubeRules → Option (Position × OrderLine) → Stage CubeRules
 by_line automatic space cube rules None = found rules
 by_line automatic space cube rules (Some line) =
     meant (in_order rules line.0 (line_order automatic space cube line.1))
 
-abbrev pub order_stage : Layout → List (Option (ℕ × OrderLine)) → ℕ → CubeRules → Stage CubeRules
+abbrev pub order_stage : Layout → List (Option (Position × OrderLine)) → ℕ → CubeRules → Stage CubeRules
 order_stage space lines cube rules = by_line (is_automatic lines) space cube rules (slice_index_or lines cube None)
 
 -- which of these texts ask for feeders to be found
@@ -125,7 +126,7 @@ asking texts = map (λ text. text.finds_feeders) texts
 -- the rules of each cube, and which of them ask for feeders to be found: all texts are read, then all are bound, and
 -- then all order lines
 unfoldable pub rules_stage
-    : Layout → List (Option (ℕ × OrderLine)) → List (Option RuleFile) → Stage BoundRules
+    : Layout → List (Option (Position × OrderLine)) → List (Option RuleFile) → Stage BoundRules
 rules_stage space lines files = do
   texts ← each (λ _. text_stage) 0 files
   meant ← each (meaning_stage space files) 0 texts

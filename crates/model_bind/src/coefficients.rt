@@ -27,11 +27,11 @@ fn weights_in(alloc: Global, text: &DimText) -> Result<Weights, DeployFault>
 {
     match Weights::of(alloc, text.dimension()) {
         Ok(weights) => Ok(weights),
-        Err(WeightFault::CoefficientTooLarge(element)) => Err(DeployFault::on(
-            text.line(element),
+        Err(WeightFault::CoefficientTooLarge(element)) => Err(DeployFault::in_model(
+            text.position(element),
             DeployCause::CoefficientTooLarge,
         )),
-        Err(WeightFault::TooManyPairs(count)) => Err(DeployFault::on(
+        Err(WeightFault::TooManyPairs(count)) => Err(DeployFault::in_model(
             text.head(),
             DeployCause::TooManyPairs(count),
         )),

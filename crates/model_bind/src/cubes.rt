@@ -1,8 +1,10 @@
-ghost use Rattle.std.specs.Prelude.{◌≡◌, IfOk, map, slice_index};
+ghost use Rattle.std.specs.Prelude.{◌≡◌, IfOk, map, slice_index_or};
+ghost use Rattle.cube_lex.specs.Positions.{nowhere};
 ghost use Rattle.cube_space.specs.Layout.{IsLayout};
-ghost use Rattle.model_bind.specs.Foundation.{shape_of, cube_lines, order_lines, space_refusal, IsAnsweredBy};
+ghost use Rattle.model_bind.specs.Foundation.{shape_of, cube_places, order_lines, space_refusal, IsAnsweredBy};
 
 use crate::fault::{DeployCause, DeployFault};
+use cube_lex::Position;
 use cube_space::{CubeShape, Space, SpaceFault};
 use dim_core::Dimension;
 use dim_text::DimText;
@@ -10,22 +12,25 @@ use lists::ListOf;
 use model_text::{CubeText, OrderLine};
 use std::alloc::{AllocError, Global};
 
-/// The line of each cube's `CUBE`.
-pub fn lines_of(alloc: Global, cubes: &[CubeText]) -> Result<Vec<u32>, AllocError>
-    ensures { IfOk result (λ lines. lines.items ≡ cube_lines cubes.now) }
+/// The place of each cube's `CUBE`.
+pub fn places_of(alloc: Global, cubes: &[CubeText]) -> Result<Vec<Position>, AllocError>
+    ensures { IfOk result (λ places. places.items ≡ cube_places cubes.now) }
 {
-    let mut lines = Vec::with_capacity(alloc, cubes.len())?;
+    let mut places = Vec::with_capacity(alloc, cubes.len())?;
     for cube in cubes {
-        lines.push(cube.line)?;
+        places.push(cube.at)?;
     }
-    Ok(lines)
+    Ok(places)
 }
 
-/// The line of a cube's `CUBE`, from those of all cubes.
-pub fn line_of(lines: &[u32], cube: u32) -> u32
-    ensures { result ≡ slice_index lines.now cube }
+/// The place of a cube's `CUBE`, from those of all cubes.
+pub fn place_of(places: &[Position], cube: u32) -> Position
+    ensures { result ≡ slice_index_or places.now cube nowhere }
 {
-    lines.get(cube as usize).copied().unwrap_or(0)
+    match places.get(cube as usize) {
+        Some(place) => *place,
+        None => Position::nowhere(),
+    }
 }
 
 /// The dimensions of their texts.
@@ -39,8 +44,8 @@ pub fn dimensions_of(alloc: Global, texts: Vec<DimText>) -> Result<Vec<Dimension
     Ok(dimensions)
 }
 
-/// A cube's order line with the line on which it stands, where the cube has one.
-pub type OrderText = Option<(u32, OrderLine)>;
+/// A cube's order line with the place of its `ORDER`, where the cube has one.
+pub type OrderText = Option<(Position, OrderLine)>;
 
 /// The shapes of the cubes, and their order lines.
 #[derive(Drop)]
@@ -82,25 +87,25 @@ pub fn space_of(
     alloc: Global,
     dims: Vec<Dimension>,
     cubes: Vec<CubeShape>,
-    lines: &[u32],
+    places: &[Position],
 ) -> Result<Space, DeployFault>
     requires { IsLayout (record { dimensions = dims.items; cubes = cubes.items }) }
     ensures made { IfOk result (λ space. space ≡ record { dimensions = dims.items; cubes = cubes.items }) }
     ensures answered { IsAnsweredBy
-        (space_refusal lines.now (record { dimensions = dims.items; cubes = cubes.items })) result }
+        (space_refusal places.now (record { dimensions = dims.items; cubes = cubes.items })) result }
 {
     match Space::new(alloc, dims, cubes) {
         Ok(space) => Ok(space),
-        Err(SpaceFault::DimensionCount(cube)) => Err(DeployFault::on(
-            line_of(lines, cube),
+        Err(SpaceFault::DimensionCount(cube)) => Err(DeployFault::in_model(
+            place_of(places, cube),
             DeployCause::DimensionCount,
         )),
-        Err(SpaceFault::CubeTooLarge(cube)) => Err(DeployFault::on(
-            line_of(lines, cube),
+        Err(SpaceFault::CubeTooLarge(cube)) => Err(DeployFault::in_model(
+            place_of(places, cube),
             DeployCause::CubeTooLarge,
         )),
-        Err(SpaceFault::ModelTooLarge(cube)) => Err(DeployFault::on(
-            line_of(lines, cube),
+        Err(SpaceFault::ModelTooLarge(cube)) => Err(DeployFault::in_model(
+            place_of(places, cube),
             DeployCause::ModelTooLarge,
         )),
         Err(SpaceFault::Memory) => Err(DeployFault::memory()),

@@ -1,7 +1,9 @@
+use cube_lex::Position;
 use lists::ListOf;
 use std::alloc::{AllocError, AllocFailed, Global};
 
-/// Why a model isn't deployed: in which file, where in it, and why. Out of memory, it is line 0 of the model file.
+/// Why a model isn't deployed: in which file, where in it, and why. Out of memory, it is line 0 of the
+/// model file.
 #[derive(Debug, Drop)]
 pub struct DeployFault {
     /// The bytes of a rule file's name; None is the model file.
@@ -10,10 +12,11 @@ pub struct DeployFault {
     pub cause: DeployCause,
 }
 
-/// A place in a file. All count from 1.
+/// A place in a file. Statements and feeders count from 1.
 #[derive(Clone, Copy, Debug, PartialEq, Eq)]
 pub enum At {
-    Line(u32),
+    /// A place of its text.
+    Text(Position),
     /// A statement of a rule file.
     Statement(u32),
     /// A feeder statement of a rule file.
@@ -25,12 +28,13 @@ pub enum At {
 /// so on.
 #[derive(Debug, Drop)]
 pub enum DeployCause {
-    /// A coefficient of an element is above 10^9 in size. The line is that of the element's statement.
+    /// A coefficient of an element is above 10^9 in size. The place is that of the element's statement.
     CoefficientTooLarge,
     /// A dimension has so many pairs of an element and a leaf that counts in it, up to and including the element at
-    /// which they become more than 4,000,000. The line is that of its `DIM`.
+    /// which they become more than 4,000,000. The place is that of its `DIM`.
     TooManyPairs(u64),
-    /// A cube has fewer than 2 or more than 16 dimensions. The line is that of its `CUBE`, as it is for the following
+    /// A cube has fewer than 2 or more than 16 dimensions. The place is that of its `CUBE`, as it is for the
+    /// following
     /// three causes.
     DimensionCount,
     /// A cube has more than 2^62 cells.
@@ -40,7 +44,7 @@ pub enum DeployCause {
     /// The greatest sizes of a coefficient in the dimensions of a cube have a product above
     /// [`rule_model::MAX_WEIGHT_PRODUCT`].
     WeightProduct,
-    /// What stands on this line of a rule file fits no rule text.
+    /// What stands at this place of a rule file fits no rule text.
     Syntax,
     /// Parentheses of a formula in a rule file are too deep, or a formula has too many operands.
     TooDeep,
@@ -56,8 +60,8 @@ pub enum DeployCause {
     DynamicReference,
     /// What may stand in a rule of TM1 may not stand there, or not here.
     Unsupported,
-    /// The order line of a cube, on this line, means no order. Where the order of some cube is to be found, it doesn't
-    /// say `AUTO`, or the dimension that it names isn't the cube's or is its last.
+    /// The order line of a cube, whose `ORDER` stands there, means no order. Where the order of some cube is to be
+    /// found, it doesn't say `AUTO`, or the dimension that it names isn't the cube's or is its last.
     BadOrder,
     /// No order is found: what this reference of a statement, counted from 1 in reading order, reads may have a greater
     /// lag than its cell. It is the first such reference.
@@ -66,8 +70,8 @@ pub enum DeployCause {
     /// the model file spells them: each reads the next, and the last reads the first. The place is the statement by
     /// which the first one reads. Of several circles any may be named.
     Cycle(ListOf<ListOf<u8>>),
-    /// The height of the declared order is above 65,536, up to the first position with which it is. The line is the
-    /// model's first.
+    /// The height of the declared order is above 65,536, up to the first position with which it is. The place is the
+    /// model's beginning.
     TooHigh(u64),
     /// This reference of a statement, counted from 1 in reading order, doesn't stand before the statement's cells.
     NotEarlier(u32),
@@ -78,7 +82,7 @@ pub enum DeployCause {
     /// in reading order.
     NotFed(u32),
     /// So many cells are fed where nothing is stored: one more than 4,000,000, also where there are more still. The
-    /// line is the model's first.
+    /// place is the model's beginning.
     FedLimit(u64),
     /// Out of memory. It may come in place of any answer.
     Memory,
@@ -86,15 +90,15 @@ pub enum DeployCause {
 
 impl DeployFault {
     ghost use Rattle.std.specs.Prelude.{◌≡◌, ◌⊎◌, Some};
-    ghost use Rattle.model_bind.specs.Foundation.{refused_on, memory};
+    ghost use Rattle.model_bind.specs.Foundation.{refused_in_model, memory};
 
-    /// The model file is refused on this line.
-    pub fn on(line: u32, cause: DeployCause) -> DeployFault
-        ensures { result ≡ refused_on line cause }
+    /// The model file is refused at this place.
+    pub fn in_model(place: Position, cause: DeployCause) -> DeployFault
+        ensures { result ≡ refused_in_model place cause }
     {
         DeployFault {
             file: None,
-            at: At::Line(line),
+            at: At::Text(place),
             cause,
         }
     }
@@ -117,7 +121,7 @@ impl DeployFault {
     pub fn memory() -> DeployFault
         ensures { result ≡ memory }
     {
-        DeployFault::on(0, DeployCause::Memory)
+        DeployFault::in_model(Position::nowhere(), DeployCause::Memory)
     }
 }
 

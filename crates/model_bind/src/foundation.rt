@@ -3,7 +3,7 @@ ghost use Rattle.rule_model.specs.Weights.{AreWeightsOf, HasSmallProducts};
 ghost use Rattle.model_bind.specs.Foundation.{layout_of, order_lines, foundation_refusal, IsAnsweredBy};
 
 use crate::coefficients::weights_of;
-use crate::cubes::{Cubes, OrderText, cubes_of, dimensions_of, lines_of, space_of};
+use crate::cubes::{Cubes, OrderText, cubes_of, dimensions_of, places_of, space_of};
 use crate::fault::DeployFault;
 use crate::products::check_products;
 use cube_space::Space;
@@ -31,11 +31,11 @@ pub fn foundation_of(alloc: Global, text: ModelText) -> Result<Foundation, Deplo
 {
     let weights = weights_of(alloc, text.dims())?;
     let (dims, cubes, _scripts) = text.into_parts();
-    let lines = lines_of(alloc, &cubes)?;
+    let places = places_of(alloc, &cubes)?;
     let dimensions = dimensions_of(alloc, dims)?;
     let Cubes { shapes, orders } = cubes_of(alloc, cubes)?;
-    let space = space_of(alloc, dimensions, shapes, &lines)?;
-    check_products(&space, &weights, &lines)?;
+    let space = space_of(alloc, dimensions, shapes, &places)?;
+    check_products(&space, &weights, &places)?;
     Ok(Foundation {
         space,
         weights,

@@ -70,12 +70,15 @@ fn by_line(
     ensures comes { Comes (order_stage found.now.space found.now.orders cube rules) result }
     ensures rules { IfOk result (AreCubeRules found.now.space cube) }
 {
-    let Some(Some((line, order))) = found.orders.as_slice().get(cube as usize) else {
+    let Some(Some((place, order))) = found.orders.as_slice().get(cube as usize) else {
         return Ok(rules);
     };
     match line_order(alloc, found, automatic, cube, order) {
         Ok(order) => Ok(CubeRules { order, ..rules }),
-        Err(BindOrderFault::BadOrder(_)) => Err(DeployFault::on(*line, DeployCause::BadOrder)),
+        Err(BindOrderFault::BadOrder(_)) => Err(DeployFault::in_model(
+            *place,
+            DeployCause::BadOrder,
+        )),
         Err(BindOrderFault::Memory) => Err(DeployFault::memory()),
     }
 }

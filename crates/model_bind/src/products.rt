@@ -2,21 +2,26 @@ ghost use Rattle.std.specs.Prelude.{◌≡◌, ◌<◌, OnOk, length, min};
 ghost use Rattle.rule_model.specs.Weights.{AreWeightsOf, HasSmallProducts, weight_product};
 ghost use Rattle.model_bind.specs.Foundation.{products_refusal, IsAnsweredBy};
 
-use crate::cubes::line_of;
+use crate::cubes::place_of;
 use crate::fault::{DeployCause, DeployFault};
+use cube_lex::Position;
 use cube_space::Space;
 use dim_weights::Weights;
 use rule_model::MAX_WEIGHT_PRODUCT;
 
 /// Whether each weight product is small, or else the refusal of the first cube of which it isn't.
-pub fn check_products(space: &Space, weights: &[Weights], lines: &[u32]) -> Result<(), DeployFault>
+pub fn check_products(
+    space: &Space,
+    weights: &[Weights],
+    places: &[Position],
+) -> Result<(), DeployFault>
     requires { AreWeightsOf space.now.dimensions weights.now }
     ensures small { OnOk result (HasSmallProducts space.now) }
-    ensures answered { IsAnsweredBy (products_refusal lines.now space.now) result }
+    ensures answered { IsAnsweredBy (products_refusal places.now space.now) result }
 {
     for cube in 0..space.cubes() {
         if weight_product(space, weights, cube) > MAX_WEIGHT_PRODUCT {
-            return Err(DeployFault::on(line_of(lines, cube), DeployCause::WeightProduct));
+            return Err(DeployFault::in_model(place_of(places, cube), DeployCause::WeightProduct));
         }
     }
     Ok(())

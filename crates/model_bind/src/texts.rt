@@ -45,13 +45,13 @@ fn text_of(alloc: Global, files: &RuleFiles<'_>, cube: usize) -> Result<RuleText
 fn text_fault(alloc: Global, name: &[u8], fault: &RuleFault) -> DeployFault
     ensures { (result ≡ memory) ⊎ (text_refusal name.now fault.now ≡ Some result) }
 {
-    let (line, cause) = match fault {
-        RuleFault::Syntax(line) => (*line, DeployCause::Syntax),
-        RuleFault::TooDeep(line) => (*line, DeployCause::TooDeep),
-        RuleFault::TooMany(line) => (*line, DeployCause::TooMany),
+    let (position, cause) = match fault {
+        RuleFault::Syntax(position) => (*position, DeployCause::Syntax),
+        RuleFault::TooDeep(position) => (*position, DeployCause::TooDeep),
+        RuleFault::TooMany(position) => (*position, DeployCause::TooMany),
         RuleFault::Memory => return DeployFault::memory(),
     };
-    DeployFault::within(alloc, name, At::Line(line), cause)
+    DeployFault::within(alloc, name, At::Text(position), cause)
 }
 
 fn no_text(alloc: Global) -> RuleText

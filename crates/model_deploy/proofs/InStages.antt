@@ -1,5 +1,6 @@
 -- The checks of a whole model, put together.
 use Rattle.std.proofs.Common.{◌≡◌, ◌⊎◌, inl, inr, ℕ, suc, [], Result, Ok, Err, List, ap, sym, ◌∙◌, subst, IsErrAnd, Option}
+use Rattle.cube_lex.specs.Positions.{text_begin}
 use Rattle.check_order.specs.Verdict.{IsOrderFault}
 use Rattle.check_order.specs.declared.fault.OrderFault.{OrderFault}
 use Rattle.cell_store.specs.declared.entry.Entry.{Entry}
@@ -13,7 +14,7 @@ use Rattle.rule_model.specs.BoundModel.{BoundModel}
 use Rattle.model_bind.specs.Files.{RuleFile}
 use Rattle.model_bind.specs.declared.fault.DeployFault.{DeployFault}
 use Rattle.model_bind.specs.declared.fault.DeployCause.TheVariants as causes
-use Rattle.model_bind.specs.Foundation.{refused_on, memory}
+use Rattle.model_bind.specs.Foundation.{refused_in_model, memory}
 use Rattle.model_bind.specs.Stages.{Stage, found, ◌>>=◌, Comes}
 use Rattle.model_deploy.specs.Deployment.{order_refusal, feeders_refusal, ordered_stage, feeders_stage, fed_stage, checked}
 use Rattle.model_bind.proofs.Stages.{stopped, goes-on}
@@ -54,9 +55,9 @@ module _ (files : List (Option RuleFile)) (model : BoundModel) where
 
 -- more cells are fed than may be
 pub overfed-by : (model : BoundModel) (fault : FedFault) (count : ℕ) (told : DeployFault) (entries : List Entry) → fault ≡ FedLimit count → entries ≡ []
-    → (fault ≡ feds.Memory) ⊎ ((fault ≡ FedLimit (suc most_fed)) × HasManyFed model entries) → told ≡ refused_on 1 (causes.FedLimit count) → Comes (fed_stage model) (Err told)
+    → (fault ≡ feds.Memory) ⊎ ((fault ≡ FedLimit (suc most_fed)) × HasManyFed model entries) → told ≡ refused_in_model text_begin (causes.FedLimit count) → Comes (fed_stage model) (Err told)
 overfed-by model fault count told entries this none (inl want) is = let clash : FedLimit count ≡ feds.Memory = sym this ∙ want in absurd (cc)
 overfed-by model fault count told entries this none (inr (same, many)) is =
     let both : FedLimit count ≡ FedLimit (suc most_fed) = sym this ∙ same in
     let limit : count ≡ suc most_fed = cc in
-    inr (subst (HasManyFed model) none many, is ∙ ap (λ n. refused_on 1 (causes.FedLimit n)) limit)
+    inr (subst (HasManyFed model) none many, is ∙ ap (λ n. refused_in_model text_begin (causes.FedLimit n)) limit)

@@ -1,6 +1,7 @@
 -- Deployment: a model text and its rule files are bound, what feeders are to be found are added, and the checks of the
 -- whole model are made, in order.
 use Rattle.std.specs.Prelude.{◌≡◌, ◌≤◌, suc, List, [], Option}
+use Rattle.cube_lex.specs.Positions.{text_begin}
 use Rattle.model_text.specs.Contents.{Contents}
 use Rattle.cube_space.specs.Radix.{product}
 use Rattle.rule_laws.specs.Cover.{IsCovered}
@@ -23,13 +24,13 @@ use Rattle.model_bind.specs.Files.{RuleFile}
 use Rattle.model_bind.specs.declared.bound.Bound.{Bound}
 use Rattle.model_bind.specs.declared.fault.DeployFault.{DeployFault}
 use Rattle.model_bind.specs.declared.fault.DeployCause.TheVariants as causes
-use Rattle.model_bind.specs.Foundation.{refused_on}
+use Rattle.model_bind.specs.Foundation.{refused_in_model}
 use Rattle.model_bind.specs.Rules.{refused_at}
 use Rattle.model_bind.specs.Stages.{Stage, found, ◌>>=◌}
 
 -- what is wrong with the order: a height is one of the whole model, a reference stands in its cube's file
 abbrev pub order_refusal : List (Option RuleFile) → OrderFault → DeployFault
-order_refusal files (orders.TooHigh height) = refused_on 1 (causes.TooHigh height)
+order_refusal files (orders.TooHigh height) = refused_in_model text_begin (causes.TooHigh height)
 order_refusal files (orders.NotEarlier cube statement reference) =
     refused_at files cube statement (causes.NotEarlier reference)
 
@@ -59,7 +60,7 @@ feeders_stage files model = record {
 abbrev pub fed_stage : BoundModel → Stage (Unit {0})
 fed_stage model = record {
   finds = λ _. HasFewFed model [];
-  refuses = λ fault. HasManyFed model [] × (fault ≡ refused_on 1 (causes.FedLimit (suc most_fed)));
+  refuses = λ fault. HasManyFed model [] × (fault ≡ refused_in_model text_begin (causes.FedLimit (suc most_fed)));
 }
 
 -- the checks of a whole model: order, feeders and fed cells, each over the whole model before the next

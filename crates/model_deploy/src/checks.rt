@@ -12,6 +12,7 @@ ghost use Rattle.model_deploy.specs.Deployment.{ordered_stage, feeders_stage, fe
 
 use cell_store::Store;
 use check_order::{OrderFault, check_order};
+use cube_lex::Position;
 use feed_check::{FeedCheckFault, check_feeders};
 use feed_map::{FedFault, Feeding};
 use feed_sources::SourceModel;
@@ -35,7 +36,10 @@ fn order_fault(alloc: Global, files: &RuleFiles<'_>, fault: OrderFault) -> Deplo
     ensures { (result ≡ memory) ⊎ (result ≡ order_refusal files.now fault) }
 {
     match fault {
-        OrderFault::TooHigh(height) => DeployFault::on(1, DeployCause::TooHigh(height)),
+        OrderFault::TooHigh(height) => DeployFault::in_model(
+            Position::text_begin(),
+            DeployCause::TooHigh(height),
+        ),
         OrderFault::NotEarlier {
             cube,
             statement,
@@ -89,7 +93,10 @@ pub fn fed_over_nothing(alloc: Global, model: &SourceModel) -> Result<Feeding, D
             let _count = feeding.fed.count();
             Ok(feeding)
         }
-        Err(FedFault::FedLimit(count)) => Err(DeployFault::on(1, DeployCause::FedLimit(count))),
+        Err(FedFault::FedLimit(count)) => Err(DeployFault::in_model(
+            Position::text_begin(),
+            DeployCause::FedLimit(count),
+        )),
         Err(FedFault::Memory) => Err(DeployFault::memory()),
     }
 }

@@ -2,12 +2,13 @@
 use Rattle.std.proofs.Common.{◌≡◌, ◌∙◌, refl, sym, ap, subst, ℕ, zero, suc, ◌+◌, arith, Bool, true, false, if◌then◌else◌, List, [], ◌∷◌, ◌++◌, map, All, IfSome, Option, Some, None, is_some, option_map, option_and_then, slice_get}
 use Rattle.std.specs.Option.{option_map_or, option_or}
 use Rattle.std.proofs.lemmas.List.Elements.{All-tail}
+use Rattle.cube_lex.specs.declared.position.Position.{Position}
 use Rattle.cube_space.specs.declared.shape.CubeShape.{CubeShape}
 use Rattle.cube_space.specs.Layout.{Layout}
 use Rattle.model_text.specs.Contents.{Contents, IsContents, IsLineIn, IsOrderedIn}
 use Rattle.model_text.specs.declared.order.OrderLine.{OrderLine}
 use Rattle.model_text.specs.declared.parts.CubeText.{CubeText}
-use Rattle.model_bind.specs.Foundation.{shape_of, layout_of, cube_lines, foundation_refusal, dimensions_refusal, space_refusal, products_refusal}
+use Rattle.model_bind.specs.Foundation.{shape_of, layout_of, foundation_refusal, dimensions_refusal, space_refusal, products_refusal}
 use Rattle.model_bind.specs.declared.fault.DeployFault.{DeployFault}
 use Rattle.rule_model.specs.declared.order.Order.{Order}
 use Rattle.rule_model.specs.declared.rules.CubeRules.{CubeRules}
@@ -31,20 +32,20 @@ same_layout version contents = ap laid (same_map shape_of version (λ cube. refl
 same_refusal : (version : ℕ) (contents : Contents) → foundation_refusal (contents_in version contents) ≡ foundation_refusal contents
 unfolding foundation_refusal
 same_refusal version contents =
-    ap (λ lines. refused lines (layout_of (contents_in version contents))) (same_map (λ cube. cube.line) version (λ cube. refl) contents.cubes)
-    ∙ ap (refused (cube_lines contents.cubes)) (same_layout version contents)
+    ap (λ places. refused places (layout_of (contents_in version contents))) (same_map (λ cube. cube.at) version (λ cube. refl) contents.cubes)
+    ∙ ap (refused (map (λ cube. cube.at) contents.cubes)) (same_layout version contents)
   where
-    refused : List ℕ → Layout → Option DeployFault
-    refused lines layout = option_or (dimensions_refusal contents.dims) (option_or (space_refusal lines layout) (products_refusal lines layout))
+    refused : List Position → Layout → Option DeployFault
+    refused places layout = option_or (dimensions_refusal contents.dims) (option_or (space_refusal places layout) (products_refusal places layout))
 
 -- the rules of cubes
 declared_too : (space : Layout) (cube : ℕ) (text : CubeText) (order : Order) → IsOrderedIn 1 text → declared_order space cube text ≡ Some order → declared_order space cube (cube_in 2 text) ≡ Some order
 declared_too space cube text order one is = by text.order one is
   where
-    declared : Option (ℕ × OrderLine) → Option Order
+    declared : Option (Position × OrderLine) → Option Order
     declared line = option_map_or (λ line. order_of space cube line.1) line (Some (record { positions = []; totals = None }))
 
-    by : (o : Option (ℕ × OrderLine)) → IfSome o (λ order. IsLineIn 1 order.1) → declared o ≡ Some order → declared (option_map (λ order. (order.0, line_in 2 order.1)) o) ≡ Some order
+    by : (o : Option (Position × OrderLine)) → IfSome o (λ order. IsLineIn 1 order.1) → declared o ≡ Some order → declared (option_map (λ order. (order.0, line_in 2 order.1)) o) ≡ Some order
     by None one is = is
     by (Some line) one is = order_too space cube line.1 order one.version is
 

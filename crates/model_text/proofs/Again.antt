@@ -22,6 +22,7 @@ use Rattle.dim_text.specs.Building.{opened}
 use Rattle.dim_text.proofs.Builds.{Builds}
 use Rattle.dim_text.specs.Progress.{Progress, Text, IsBuilt}
 use Rattle.cube_lex.specs.Written.{word_token, sign_token, text_token}
+use Rattle.cube_lex.specs.declared.position.Position.{Position}
 use Rattle.dim_text.specs.Spelled.{head_spelled, body_spelled}
 use Rattle.dim_text.proofs.PrintedBack.{body_of}
 use Rattle.dim_text.specs.Statement.{body}
@@ -73,9 +74,9 @@ among P all front rest x parts h =
     subst P (get_or-append_seam front x rest x) ((subst (All P) parts h) (length front) x (omega (arith, length-append front (x ∷ rest))))
 
 -- what is let through
-lets : (b : Bool) (line : ℕ) (parts : Parts) (current : Current) (cause : ModelTextCause) → b ≡ false → unless b line cause parts current ≡ Ok (at parts current)
-lets true line parts current cause e = cc
-lets false line parts current cause e = refl
+lets : (b : Bool) (place : Position) (parts : Parts) (current : Current) (cause : ModelTextCause) → b ≡ false → unless b place cause parts current ≡ Ok (at parts current)
+lets true place parts current cause e = cc
+lets false place parts current cause e = refl
 
 pub zip_last : {X Y : Type 0} (R : X → Y → Type 0) (xs : List X) (ys : List Y) (x : X) (y : Y) → AllZip R xs ys → R x y → AllZip R (xs ++ x ∷ []) (ys ++ y ∷ [])
 zip_last R [] [] x y h is = (is, tt)
@@ -97,27 +98,27 @@ into_naming u x h = inr (inr (inr (inr (inr (inl (naming_into u x h))))))
 -- Dimensions.
 
 head_goes : (blocks : List Progress) (parts : Parts) (shown : List ℕ) → IsTrue (is_name shown) → dimensions_are_full parts ≡ false → has_dimension parts shown ≡ false
-    → Goes {E = ℕ} dimension_head (head_spelled shown) (outside_of blocks parts Nothing) (λ line. outside_of blocks parts (DimensionBody line shown)) (λ _. Unit {0})
+    → Goes {E = Position} dimension_head (head_spelled shown) (outside_of blocks parts Nothing) (λ place. outside_of blocks parts (DimensionBody place shown)) (λ _. Unit {0})
 head_goes blocks parts shown is few new =
     goes_both {xs = word_token (codes "DIM") ∷ []} {ys = text_token shown ∷ sign_token (codes ";") ∷ []}
-    (goes_unit (goes_piece {P = λ (line : ℕ). Unit {0}} (outside_of blocks parts Nothing) (λ line. at parts (DimensionDue line)) (λ u x h. inr (inr (inl h))) dimension_word_spells
-    (λ x (line, same). (line, ap (gathered (at parts Nothing)) same ∙ lets (dimensions_are_full parts) line parts (DimensionDue line) causes.TooMany few, tt))))
-    (λ line _. goes_both {xs = text_token shown ∷ []} {ys = sign_token (codes ";") ∷ []}
-    (goes_unit (goes_piece {P = λ (l : ℕ). Unit {0}} (outside_of blocks parts (DimensionDue line)) (λ _. at parts (DimensionOpen line shown)) into_naming (naming_spells shown is)
-    (λ x (l, same). (l, ap (gathered (at parts (DimensionDue line))) same ∙ lets (has_dimension parts shown) l parts (DimensionOpen line shown) causes.Duplicate new, tt))))
-    (λ _ _. goes_unit (goes_piece {P = λ (l : ℕ). Unit {0}} (outside_of blocks parts (DimensionOpen line shown)) (λ l. at parts (DimensionBody l shown)) into_closing closing_spells
-    (λ x same. (line, ap (gathered (at parts (DimensionOpen line shown))) same, tt)))))
+    (goes_unit (goes_piece {P = λ (place : Position). Unit {0}} (outside_of blocks parts Nothing) (λ place. at parts (DimensionDue place)) (λ u x h. inr (inr (inl h))) dimension_word_spells
+    (λ x (place, same). (place, ap (gathered (at parts Nothing)) same ∙ lets (dimensions_are_full parts) place parts (DimensionDue place) causes.TooMany few, tt))))
+    (λ place _. goes_both {xs = text_token shown ∷ []} {ys = sign_token (codes ";") ∷ []}
+    (goes_unit (goes_piece {P = λ (l : Position). Unit {0}} (outside_of blocks parts (DimensionDue place)) (λ _. at parts (DimensionOpen place shown)) into_naming (naming_spells shown is)
+    (λ x (l, same). (l, ap (gathered (at parts (DimensionDue place))) same ∙ lets (has_dimension parts shown) l parts (DimensionOpen place shown) causes.Duplicate new, tt))))
+    (λ _ _. goes_unit (goes_piece {P = λ (l : Position). Unit {0}} (outside_of blocks parts (DimensionOpen place shown)) (λ l. at parts (DimensionBody l shown)) into_closing closing_spells
+    (λ x same. (place, ap (gathered (at parts (DimensionOpen place shown))) same, tt)))))
 
-body_goes : (blocks : List Progress) (parts : Parts) (d : Outline) (line : ℕ) → IsDimension d
-    → Goes {E = Progress} body (body_spelled (written d)) (outside_of blocks parts (DimensionBody line d.name)) (λ built. outside_of (blocks ++ built ∷ []) (record parts { names = parts.names ++ d.name ∷ [] }) Nothing) (λ built. IsFinished built.draft d)
-body_goes blocks parts d line is = record {
+body_goes : (blocks : List Progress) (parts : Parts) (d : Outline) (place : Position) → IsDimension d
+    → Goes {E = Progress} body (body_spelled (written d)) (outside_of blocks parts (DimensionBody place d.name)) (λ built. outside_of (blocks ++ built ∷ []) (record parts { names = parts.names ++ d.name ∷ [] }) Nothing) (λ built. IsFinished built.draft d)
+body_goes blocks parts d place is = record {
   at = λ ts e. (
-      let builds : Builds body (opened line d.name) d ts = body_of d is line ts e in (
+      let builds : Builds body (opened place d.name) d ts = body_of d is place ts e in (
         tt,
         builds.built,
         builds.text.text,
-        passes_one watching (outside_of blocks parts (DimensionBody line d.name)) (outside_of (blocks ++ builds.built ∷ []) (record parts { names = parts.names ++ d.name ∷ [] }) Nothing) ts
-            (inr (record { start = opened line d.name; block = builds.built; head = refl; text = builds.text.text; built = builds.text.passes; next = refl })),
+        passes_one watching (outside_of blocks parts (DimensionBody place d.name)) (outside_of (blocks ++ builds.built ∷ []) (record parts { names = parts.names ++ d.name ∷ [] }) Nothing) ts
+            (inr (record { start = opened place d.name; block = builds.built; head = refl; text = builds.text.text; built = builds.text.passes; next = refl })),
         builds.finished,
       ));
 }
@@ -143,12 +144,12 @@ dims_full : (names : List (List ℕ)) (all front rest : List Text) (x : Text) �
 dims_full names all front rest x parts few is = ap (nat_le most_model_dimensions) (ap length is ∙ length-map front block_name) ∙ room all front rest x most_model_dimensions parts few
 
 one_more_dim : (front : List Text) (x : Text) (dims : Dims) (built : Progress) → IsFinished built.draft x.dimension → AreDims front dims
-    → AreDims (front ++ x ∷ []) (record { blocks = dims.blocks ++ built ∷ []; names = dims.names ++ block_name x ∷ []; texts = dims.texts ++ record { head = built.head; dimension = x.dimension; lines = built.lines } ∷ [] })
+    → AreDims (front ++ x ∷ []) (record { blocks = dims.blocks ++ built ∷ []; names = dims.names ++ block_name x ∷ []; texts = dims.texts ++ record { head = built.head; dimension = x.dimension; positions = built.positions } ∷ [] })
 one_more_dim front x dims built finished are =
-    let text : Text = record { head = built.head; dimension = x.dimension; lines = built.lines } in
+    let text : Text = record { head = built.head; dimension = x.dimension; positions = built.positions } in
     record {
       names = ap (λ ns. ns ++ block_name x ∷ []) are.names ∙ sym (map-append block_name front (x ∷ []));
-      built = zip_last IsBuilt dims.texts dims.blocks text built are.built (record { head = refl; dimension = finished; lines = refl });
+      built = zip_last IsBuilt dims.texts dims.blocks text built are.built (record { head = refl; dimension = finished; positions = refl });
       same = map-append (λ (t : Text). t.dimension) dims.texts (text ∷ []) ∙ ap (λ ds. ds ++ x.dimension ∷ []) are.same ∙ sym (map-append (λ (t : Text). t.dimension) front (x ∷ []));
     }
 
@@ -160,47 +161,47 @@ dims_go version all good few distinct = goes_many dimension dim_spelled (dims_se
     let now : Parts = record { version = version; names = dims.names; cubes = []; scripts = [] } in
     let full : dimensions_are_full now ≡ false = dims_full dims.names all front rest x parts few are.names in
     let new : has_dimension now (block_name x) ≡ false = ap (λ ns. has_name ns (block_name x)) are.names ∙ fresh_name block_name all front rest x parts distinct in
-    goes_as (λ built finished. (record { blocks = dims.blocks ++ built ∷ []; names = dims.names ++ block_name x ∷ []; texts = dims.texts ++ record { head = built.head; dimension = x.dimension; lines = built.lines } ∷ [] }, refl, one_more_dim front x dims built finished are))
-    (goes_both {xs = head_spelled (block_name x)} {ys = body_spelled (written x.dimension)} (head_goes dims.blocks now (block_name x) is.is_named full new) (λ line _. body_goes dims.blocks now x.dimension line is)))
+    goes_as (λ built finished. (record { blocks = dims.blocks ++ built ∷ []; names = dims.names ++ block_name x ∷ []; texts = dims.texts ++ record { head = built.head; dimension = x.dimension; positions = built.positions } ∷ [] }, refl, one_more_dim front x dims built finished are))
+    (goes_both {xs = head_spelled (block_name x)} {ys = body_spelled (written x.dimension)} (head_goes dims.blocks now (block_name x) is.is_named full new) (λ place _. body_goes dims.blocks now x.dimension place is)))
     (record { blocks = []; names = []; texts = [] }) (record { names = refl; built = tt; same = refl })
 
 -- Cubes.
 
 cube_head_goes : (blocks : List Progress) (parts : Parts) (shown : List ℕ) → IsTrue (is_name shown) → cubes_are_full parts ≡ false → has_cube parts shown ≡ false
-    → Goes {E = ℕ} cube_head (cube_head_spelled shown) (outside_of blocks parts Nothing) (λ line. outside_of blocks parts (CubeOpen line shown [])) (λ _. Unit {0})
+    → Goes {E = Position} cube_head (cube_head_spelled shown) (outside_of blocks parts Nothing) (λ place. outside_of blocks parts (CubeOpen place shown [])) (λ _. Unit {0})
 cube_head_goes blocks parts shown is few new =
     goes_both {xs = word_token (codes "CUBE") ∷ []} {ys = text_token shown ∷ []}
-    (goes_unit (goes_piece {P = λ (line : ℕ). Unit {0}} (outside_of blocks parts Nothing) (λ line. at parts (CubeDue line)) (λ u x h. inr (inr (inr (inl h)))) cube_word_spells
-    (λ x (line, same). (line, ap (gathered (at parts Nothing)) same ∙ lets (cubes_are_full parts) line parts (CubeDue line) causes.TooMany few, tt))))
-    (λ line _. goes_unit (goes_piece {P = λ (l : ℕ). Unit {0}} (outside_of blocks parts (CubeDue line)) (λ l. at parts (CubeOpen l shown [])) into_naming (naming_spells shown is)
-    (λ x (l, same). (line, ap (gathered (at parts (CubeDue line))) same ∙ lets (has_cube parts shown) l parts (CubeOpen line shown []) causes.Duplicate new, tt))))
+    (goes_unit (goes_piece {P = λ (place : Position). Unit {0}} (outside_of blocks parts Nothing) (λ place. at parts (CubeDue place)) (λ u x h. inr (inr (inr (inl h)))) cube_word_spells
+    (λ x (place, same). (place, ap (gathered (at parts Nothing)) same ∙ lets (cubes_are_full parts) place parts (CubeDue place) causes.TooMany few, tt))))
+    (λ place _. goes_unit (goes_piece {P = λ (l : Position). Unit {0}} (outside_of blocks parts (CubeDue place)) (λ l. at parts (CubeOpen l shown [])) into_naming (naming_spells shown is)
+    (λ x (l, same). (place, ap (gathered (at parts (CubeDue place))) same ∙ lets (has_cube parts shown) l parts (CubeOpen place shown []) causes.Duplicate new, tt))))
 
 -- a dimension of a cube that has these so far
-module _ (blocks : List Progress) (parts : Parts) (line : ℕ) (shown : List ℕ) (named : All (λ name. IsTrue (is_name name)) parts.names) (distinct : IsDistinct is_same_name parts.names) where
+module _ (blocks : List Progress) (parts : Parts) (place : Position) (shown : List ℕ) (named : All (λ name. IsTrue (is_name name)) parts.names) (distinct : IsDistinct is_same_name parts.names) where
   number_goes : (before : List ℕ) → ((u : List Lexeme) (x : Piece) → dimension_behind before u x → piece u x) → (front rest : List ℕ) (number : ℕ) → AreDimensions (length parts.names) (front ++ number ∷ rest) → (so_far : List ℕ) → so_far ≡ front
-      → Goes {E = List ℕ} (dimension_behind before) (dimension_spelled before (get_or parts.names number [])) (outside_of blocks parts (CubeOpen line shown so_far)) (λ numbers. outside_of blocks parts (CubeOpen line shown numbers)) (λ numbers. numbers ≡ front ++ number ∷ [])
+      → Goes {E = List ℕ} (dimension_behind before) (dimension_spelled before (get_or parts.names number [])) (outside_of blocks parts (CubeOpen place shown so_far)) (λ numbers. outside_of blocks parts (CubeOpen place shown numbers)) (λ numbers. numbers ≡ front ++ number ∷ [])
   number_goes before into front rest number are so_far same =
       let there : number < length parts.names = among (λ n. n < length parts.names) (front ++ number ∷ rest) front rest number refl are.there in
-      let place : place_of parts.names (get_or parts.names number []) ≡ Some number = place_at parts.names distinct number there in
+      let found : place_of parts.names (get_or parts.names number []) ≡ Some number = place_at parts.names distinct number there in
       let new : list_any (nat_eq number) so_far ≡ false = ap (list_any (nat_eq number)) same ∙ fresh nat_eq nat_eq_equiv front rest number are.distinct in
-      goes_piece (outside_of blocks parts (CubeOpen line shown so_far)) (λ numbers. at parts (CubeOpen line shown numbers)) into (dimension_behind_spells before (get_or parts.names number []) (named number [] there))
+      goes_piece (outside_of blocks parts (CubeOpen place shown so_far)) (λ numbers. at parts (CubeOpen place shown numbers)) into (dimension_behind_spells before (get_or parts.names number []) (named number [] there))
       (λ x (l, is). (
         so_far ++ number ∷ [],
-        ap (gathered (at parts (CubeOpen line shown so_far))) is ∙ ap (λ o. with_dimension parts l o (CubeOpen line shown so_far)) place ∙ lets (list_any (nat_eq number) so_far) l parts (CubeOpen line shown (so_far ++ number ∷ [])) causes.Duplicate new,
+        ap (gathered (at parts (CubeOpen place shown so_far))) is ∙ ap (λ o. with_dimension parts l o (CubeOpen place shown so_far)) found ∙ lets (list_any (nat_eq number) so_far) l parts (CubeOpen place shown (so_far ++ number ∷ [])) causes.Duplicate new,
         ap (λ ns. ns ++ number ∷ []) same,
       ))
 
   numbers_go : (first : ℕ) (rest : List ℕ) → AreDimensions (length parts.names) (first ∷ rest)
-      → Goes {E = List ℕ} cube_dimensions (cube_dimensions_spelled parts.names (first ∷ rest)) (outside_of blocks parts (CubeOpen line shown [])) (λ numbers. outside_of blocks parts (CubeOpen line shown numbers)) (λ numbers. numbers ≡ first ∷ rest)
+      → Goes {E = List ℕ} cube_dimensions (cube_dimensions_spelled parts.names (first ∷ rest)) (outside_of blocks parts (CubeOpen place shown [])) (λ numbers. outside_of blocks parts (CubeOpen place shown numbers)) (λ numbers. numbers ≡ first ∷ rest)
   numbers_go first rest are =
       goes_both {xs = dimension_spelled (codes "(") (get_or parts.names first [])} {ys = flat_map (next_dimension_spelled parts.names) rest}
       (goes_unit (number_goes (codes "(") (λ u x h. inr (inr (inr (inr (inr (inr (inl h))))))) [] rest first are [] refl))
-      (λ so_far same. goes_unit (goes_many next_dimension (next_dimension_spelled parts.names) (λ numbers. outside_of blocks parts (CubeOpen line shown numbers)) (λ front numbers. numbers ≡ first ∷ front) rest
+      (λ so_far same. goes_unit (goes_many next_dimension (next_dimension_spelled parts.names) (λ numbers. outside_of blocks parts (CubeOpen place shown numbers)) (λ front numbers. numbers ≡ first ∷ front) rest
       (λ front more number split numbers equal. number_goes (codes ",") (λ u x h. inr (inr (inr (inr (inr (inr (inr (inl h)))))))) (first ∷ front) more number (subst (AreDimensions (length parts.names)) (ap (λ ns. first ∷ ns) split) are) numbers equal)
       so_far same))
 
 -- in a text of the version that it had, an order line is as it was
-same_order : (version : ℕ) (o : Option (ℕ × OrderLine)) (again : Option (ℕ × List OrderWord)) → IfSome o (λ x. IsLineIn version x.1) → HasPositions o again → IsSameBehind o (order_of version again)
+same_order : (version : ℕ) (o : Option (Position × OrderLine)) (again : Option (Position × List OrderWord)) → IfSome o (λ x. IsLineIn version x.1) → HasPositions o again → IsSameBehind o (order_of version again)
 same_order version None None is same = refl
 same_order version None (Some a) is same = cc
 same_order version (Some o) None is same = cc
@@ -209,29 +210,29 @@ same_order version (Some o) (Some a) is same =
     ap (λ list. Some (record { version = version; words = list })) positions ∙ ap (λ v. Some (record { version = v; words = o.1.words })) (sym is.version)
 
 -- in version 2 all words may stand
-may_stand : (version : ℕ) (o : Option (ℕ × OrderLine)) → IfSome o (λ x. IsLineIn version x.1) → MayStand (has_totals version) o
+may_stand : (version : ℕ) (o : Option (Position × OrderLine)) → IfSome o (λ x. IsLineIn version x.1) → MayStand (has_totals version) o
 may_stand version None is = tt
 may_stand version (Some o) is = λ has. ap has_totals (is.kinds has)
 
 -- it has this name, these dimensions and this end
-record Has (shown numbers : List ℕ) (r : Option (ℕ × List ℕ)) (o : Option (ℕ × OrderLine)) (c : CubeText) : Type 0 where
+record Has (shown numbers : List ℕ) (r : Option (Position × List ℕ)) (o : Option (Position × OrderLine)) (c : CubeText) : Type 0 where
   name : c.name ≡ shown
   dims : c.dims ≡ numbers
   rules : IsSameBehind r c.rules
   order : IsSameBehind o c.order
 
-cube_goes : (blocks : List Progress) (parts : Parts) (shown numbers : List ℕ) (r : Option (ℕ × List ℕ)) (o : Option (ℕ × OrderLine))
+cube_goes : (blocks : List Progress) (parts : Parts) (shown numbers : List ℕ) (r : Option (Position × List ℕ)) (o : Option (Position × OrderLine))
     → All (λ name. IsTrue (is_name name)) parts.names → IsDistinct is_same_name parts.names → AreDimensions (length parts.names) numbers → 0 < length numbers → IsTrue (is_name shown)
     → IfSome r (λ x. IsFileText x.1) → IfSome o (λ x. IsWritableOrder x.1.words) → IfSome o (λ x. IsLineIn parts.version x.1) → cubes_are_full parts ≡ false → has_cube parts shown ≡ false
     → Goes {E = CubeText} (cube (has_totals parts.version)) (cube_head_spelled shown ++ (cube_dimensions_spelled parts.names numbers ++ cube_end_spelled r o)) (outside_of blocks parts Nothing) (λ again. outside_of blocks (with_cube parts again) Nothing) (Has shown numbers r o)
 cube_goes blocks parts shown [] r o named distinct are some is r_is o_is in_version few new = absurd (omega (arith, some))
 cube_goes blocks parts shown (first ∷ rest) r o named distinct are some is r_is o_is in_version few new =
     goes_both {xs = cube_head_spelled shown} {ys = cube_dimensions_spelled parts.names (first ∷ rest) ++ cube_end_spelled r o} (cube_head_goes blocks parts shown is few new)
-    (λ line _. goes_both {xs = cube_dimensions_spelled parts.names (first ∷ rest)} {ys = cube_end_spelled r o} (numbers_go blocks parts line shown named distinct first rest are)
-    (λ numbers same. goes_unit (goes_piece (outside_of blocks parts (CubeOpen line shown numbers)) (λ again. at (with_cube parts again) Nothing) (into_end (has_totals parts.version)) (cube_end_spells (has_totals parts.version) r o r_is o_is (may_stand parts.version o in_version))
+    (λ place _. goes_both {xs = cube_dimensions_spelled parts.names (first ∷ rest)} {ys = cube_end_spelled r o} (numbers_go blocks parts place shown named distinct first rest are)
+    (λ numbers same. goes_unit (goes_piece (outside_of blocks parts (CubeOpen place shown numbers)) (λ again. at (with_cube parts again) Nothing) (into_end (has_totals parts.version)) (cube_end_spells (has_totals parts.version) r o r_is o_is (may_stand parts.version o in_version))
     (λ x end. (
-      cube_of parts line shown numbers end.r_again end.o_again,
-      ap (gathered (at parts (CubeOpen line shown numbers))) end.is,
+      cube_of parts place shown numbers end.r_again end.o_again,
+      ap (gathered (at parts (CubeOpen place shown numbers))) end.is,
       record { name = refl; dims = same; rules = end.r_same; order = same_order parts.version o end.o_again in_version end.o_same },
     )))))
 
@@ -264,16 +265,16 @@ script_goes : (blocks : List Progress) (parts : Parts) (own : ScriptText) → Is
     → Goes {E = ScriptText} script (script_spelled own) (outside_of blocks parts Nothing) (λ again. outside_of blocks (with_script parts again) Nothing) (IsSameScript own)
 script_goes blocks parts own is filed few new =
     goes_both {xs = word_token (codes "SCRIPT") ∷ []} {ys = text_token own.name ∷ text_token own.file ∷ sign_token (codes ";") ∷ []}
-    (goes_unit (goes_piece {P = λ (line : ℕ). Unit {0}} (outside_of blocks parts Nothing) (λ line. at parts (ScriptDue line)) (λ u x h. inr (inr (inr (inr (inl h))))) script_word_spells
-    (λ x (line, same). (line, ap (gathered (at parts Nothing)) same ∙ lets (scripts_are_full parts) line parts (ScriptDue line) causes.TooMany few, tt))))
-    (λ line _. goes_both {xs = text_token own.name ∷ []} {ys = text_token own.file ∷ sign_token (codes ";") ∷ []}
-    (goes_unit (goes_piece {P = λ (l : ℕ). Unit {0}} (outside_of blocks parts (ScriptDue line)) (λ _. at parts (ScriptOpen line own.name)) into_naming (naming_spells own.name is)
-    (λ x (l, same). (l, ap (gathered (at parts (ScriptDue line))) same ∙ lets (has_script parts own.name) l parts (ScriptOpen line own.name) causes.Duplicate new, tt))))
+    (goes_unit (goes_piece {P = λ (place : Position). Unit {0}} (outside_of blocks parts Nothing) (λ place. at parts (ScriptDue place)) (λ u x h. inr (inr (inr (inr (inl h))))) script_word_spells
+    (λ x (place, same). (place, ap (gathered (at parts Nothing)) same ∙ lets (scripts_are_full parts) place parts (ScriptDue place) causes.TooMany few, tt))))
+    (λ place _. goes_both {xs = text_token own.name ∷ []} {ys = text_token own.file ∷ sign_token (codes ";") ∷ []}
+    (goes_unit (goes_piece {P = λ (l : Position). Unit {0}} (outside_of blocks parts (ScriptDue place)) (λ _. at parts (ScriptOpen place own.name)) into_naming (naming_spells own.name is)
+    (λ x (l, same). (l, ap (gathered (at parts (ScriptDue place))) same ∙ lets (has_script parts own.name) l parts (ScriptOpen place own.name) causes.Duplicate new, tt))))
     (λ _ _. goes_both {xs = text_token own.file ∷ []} {ys = sign_token (codes ";") ∷ []}
-    (goes_unit (goes_piece {P = λ (l : ℕ). Unit {0}} (outside_of blocks parts (ScriptOpen line own.name)) (λ _. at parts (ScriptWhole line own.name own.file)) (λ u x h. inr (inr (inr (inr (inr (inl (file_into u x h))))))) (script_file_spells own.file filed)
-    (λ x (l, same). (l, ap (gathered (at parts (ScriptOpen line own.name))) same, tt))))
-    (λ _ _. goes_unit (goes_piece (outside_of blocks parts (ScriptWhole line own.name own.file)) (λ again. at (with_script parts again) Nothing) into_closing closing_spells
-    (λ x same. (record { line = line; name = own.name; file = own.file }, ap (gathered (at parts (ScriptWhole line own.name own.file))) same, record { name = refl; file = refl }))))))
+    (goes_unit (goes_piece {P = λ (l : Position). Unit {0}} (outside_of blocks parts (ScriptOpen place own.name)) (λ _. at parts (ScriptWhole place own.name own.file)) (λ u x h. inr (inr (inr (inr (inr (inl (file_into u x h))))))) (script_file_spells own.file filed)
+    (λ x (l, same). (l, ap (gathered (at parts (ScriptOpen place own.name))) same, tt))))
+    (λ _ _. goes_unit (goes_piece (outside_of blocks parts (ScriptWhole place own.name own.file)) (λ again. at (with_script parts again) Nothing) into_closing closing_spells
+    (λ x same. (record { at = place; name = own.name; file = own.file }, ap (gathered (at parts (ScriptWhole place own.name own.file))) same, record { name = refl; file = refl }))))))
 
 same_scripts_of : (xs ys : List ScriptText) → AllZip IsSameScript xs ys → script_names ys ≡ script_names xs
 same_scripts_of [] [] same = refl

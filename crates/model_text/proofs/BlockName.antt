@@ -1,6 +1,7 @@
 -- A block keeps the name of its head.
 use Rattle.std.proofs.Common.{◌≡◌, ℕ, zero, suc, List, [], Bool, true, false, length, Option, Some, None, Ok, Err, refl, sym, ◌∙◌, subst, inl, inr, if◌then◌else◌}
 use Rattle.cube_lex.specs.Lexeme.{Lexeme}
+use Rattle.cube_lex.specs.declared.position.Position.{Position}
 use Rattle.grammar.specs.Grammar.{Grammar}
 use Rattle.grammar.specs.Reading.{Read, Reader, bound, let_through, checked_result, repeat, starts}
 use Rattle.grammar.specs.declared.cursor.Unwatched.{Unwatched}
@@ -33,23 +34,23 @@ choice_keeps p false x y h k = k
 
 -- a statement other than a head
 abbrev IsWithin : Statement → Type 0
-IsWithin (Head line shown) = ⊥
+IsWithin (Head place shown) = ⊥
 IsWithin other = Unit {0}
 
-element_keeps : (p : Progress) (x : Statement) (rest : List Lexeme) (line : ℕ) (shown : List ℕ) (components : List _) (o : Option DimFault) → Keeps {A = Statement} p (let_through x rest (element_added p line shown components o))
-element_keeps p x rest line shown components None = refl
-element_keeps p x rest line shown components (Some fault) = tt
+element_keeps : (p : Progress) (x : Statement) (rest : List Lexeme) (place : Position) (shown : List ℕ) (components : List _) (o : Option DimFault) → Keeps {A = Statement} p (let_through x rest (element_added p place shown components o))
+element_keeps p x rest place shown components None = refl
+element_keeps p x rest place shown components (Some fault) = tt
 
 end_keeps : (p : Progress) (x : Statement) (rest : List Lexeme) (o : Option DimFault) → Keeps {A = Statement} p (let_through x rest (finished p o))
 end_keeps p x rest None = refl
 end_keeps p x rest (Some fault) = tt
 
 added_keeps : (p : Progress) (x y : Statement) (rest : List Lexeme) → IsWithin y → Keeps {A = Statement} p (let_through x rest (add p y))
-added_keeps p x (Head line shown) rest h = absurd h
-added_keeps p x (Leaf line shown) rest h = element_keeps p x rest line shown [] (refusal_of p.draft shown [])
-added_keeps p x (Consolidated line shown components) rest h = element_keeps p x rest line shown components (refusal_of p.draft shown components)
-added_keeps p x (Attribute line shown called value) rest h = refl
-added_keeps p x (End line) rest h = end_keeps p x rest (finish_refusal_of p.draft)
+added_keeps p x (Head place shown) rest h = absurd h
+added_keeps p x (Leaf place shown) rest h = element_keeps p x rest place shown [] (refusal_of p.draft shown [])
+added_keeps p x (Consolidated place shown components) rest h = element_keeps p x rest place shown components (refusal_of p.draft shown components)
+added_keeps p x (Attribute place shown called value) rest h = refl
+added_keeps p x (End place) rest h = end_keeps p x rest (finish_refusal_of p.draft)
 added_keeps p x Close rest h = refl
 
 -- each statement that G reads is no head
@@ -98,5 +99,5 @@ body_keeps : (p : Progress) (ts : List Lexeme) → Keeps p (read_body p ts)
 unfolding read_body
 body_keeps p ts = bound_keeps p (read_elements p ts) _ (elements_keeps p ts) (λ a q rest. bound_keeps q (read_ending q rest) _ (ending_keeps q rest) (λ b m left. closing_keeps m left))
 
-pub name_kept : (line : ℕ) (name : List ℕ) (ts rest : List Lexeme) (block : Progress) → read_body (opened line name) ts ≡ Ok (tt, block, rest) → block.draft.name ≡ name
-name_kept line name ts rest block read = subst (Keeps (opened line name)) read (body_keeps (opened line name) ts)
+pub name_kept : (place : Position) (name : List ℕ) (ts rest : List Lexeme) (block : Progress) → read_body (opened place name) ts ≡ Ok (tt, block, rest) → block.draft.name ≡ name
+name_kept place name ts rest block read = subst (Keeps (opened place name)) read (body_keeps (opened place name) ts)

@@ -1,6 +1,7 @@
 -- What the word and the name of a statement add, whatever its section.
 use Rattle.std.proofs.Common.{◌≡◌, ℕ, List, Ok, Err, refl, sym, ◌∙◌, ap, subst}
 use Rattle.cube_lex.specs.Lexeme.{Lexeme}
+use Rattle.cube_lex.specs.declared.position.Position.{Position}
 use Rattle.grammar.specs.Cursor.{Gives}
 use Rattle.grammar.specs.Reading.{unit_of, gives, bound, ◌>>◌}
 use Rattle.grammar.specs.declared.cursor.Unwatched.{Unwatched}
@@ -23,15 +24,15 @@ word_reader sections.Dimension = refl
 word_reader sections.Cube = refl
 word_reader sections.Script = refl
 
-pub word_gathered : (section : Section) (parts : Parts) (line : ℕ) → gathered (at parts Nothing) (word_piece section line) ≡ unless (is_full section parts) line causes.TooMany parts (due section line)
-word_gathered sections.Dimension parts line = refl
-word_gathered sections.Cube parts line = refl
-word_gathered sections.Script parts line = refl
+pub word_gathered : (section : Section) (parts : Parts) (place : Position) → gathered (at parts Nothing) (word_piece section place) ≡ unless (is_full section parts) place causes.TooMany parts (due section place)
+word_gathered sections.Dimension parts place = refl
+word_gathered sections.Cube parts place = refl
+word_gathered sections.Script parts place = refl
 
-pub name_gathered : (section : Section) (parts : Parts) (line word_line : ℕ) (shown : List ℕ) → with_text parts line shown (due section word_line) ≡ unless (has section parts shown) line causes.Duplicate parts (named section word_line shown)
-name_gathered sections.Dimension parts line word_line shown = refl
-name_gathered sections.Cube parts line word_line shown = refl
-name_gathered sections.Script parts line word_line shown = refl
+pub name_gathered : (section : Section) (parts : Parts) (place word_place : Position) (shown : List ℕ) → with_text parts place shown (due section word_place) ≡ unless (has section parts shown) place causes.Duplicate parts (named section word_place shown)
+name_gathered sections.Dimension parts place word_place shown = refl
+name_gathered sections.Cube parts place word_place shown = refl
+name_gathered sections.Script parts place word_place shown = refl
 
 -- A script that stops at its `;`.
 
@@ -45,10 +46,10 @@ behind_word = do
   gather_naming
   behind_name
 
-pub script_stops : (parts : Parts) (line l : ℕ) (name file : List ℕ) (ts ts1 ts2 ts3 left : List Lexeme) (v m : Unwatched) (stop : Stop ModelTextFault) → gather_script_word (at parts Nothing) ts ≡ Ok (tt, at parts (ScriptDue line), ts1) → gather_naming (at parts (ScriptDue line)) ts1 ≡ Ok (tt, at parts (ScriptOpen line name), ts2) → read_script_file (record {}) ts2 ≡ Ok (QuotedText l file, v, ts3) → Gives {X = Unit {0}} (λ _. Closing) (Err stop) m left (read_closing (record {}) ts3) → Stops stop (read_script (at parts Nothing) ts)
+pub script_stops : (parts : Parts) (place l : Position) (name file : List ℕ) (ts ts1 ts2 ts3 left : List Lexeme) (v m : Unwatched) (stop : Stop ModelTextFault) → gather_script_word (at parts Nothing) ts ≡ Ok (tt, at parts (ScriptDue place), ts1) → gather_naming (at parts (ScriptDue place)) ts1 ≡ Ok (tt, at parts (ScriptOpen place name), ts2) → read_script_file (record {}) ts2 ≡ Ok (QuotedText l file, v, ts3) → Gives {X = Unit {0}} (λ _. Closing) (Err stop) m left (read_closing (record {}) ts3) → Stops stop (read_script (at parts Nothing) ts)
 unfolding read_script
-script_stops parts line l name file ts ts1 ts2 ts3 left v m stop word naming read closing =
-    let e1 : read_script (at parts Nothing) ts ≡ behind_word (at parts (ScriptDue line)) ts1 = ap (λ r. bound r (λ _. behind_word)) word in
-    let e2 : behind_word (at parts (ScriptDue line)) ts1 ≡ behind_name (at parts (ScriptOpen line name)) ts2 = ap (λ r. bound r (λ _. behind_name)) naming in
-    let e3 : behind_name (at parts (ScriptOpen line name)) ts2 ≡ gather_closing (at parts (ScriptWhole line name file)) ts3 = ap (λ r. bound r (λ _. gather_closing)) (gather_ok read_script_file (at parts (ScriptOpen line name)) read refl) in
-    subst (Stops stop) (sym (e1 ∙ e2 ∙ e3)) (stops_bound stop (gather read_closing (at parts (ScriptWhole line name file)) ts3) (λ _. gives tt) (piece_stops {X = Unit {0}} (λ _. Closing) read_closing (at parts (ScriptWhole line name file)) ts3 left m stop closing))
+script_stops parts place l name file ts ts1 ts2 ts3 left v m stop word naming read closing =
+    let e1 : read_script (at parts Nothing) ts ≡ behind_word (at parts (ScriptDue place)) ts1 = ap (λ r. bound r (λ _. behind_word)) word in
+    let e2 : behind_word (at parts (ScriptDue place)) ts1 ≡ behind_name (at parts (ScriptOpen place name)) ts2 = ap (λ r. bound r (λ _. behind_name)) naming in
+    let e3 : behind_name (at parts (ScriptOpen place name)) ts2 ≡ gather_closing (at parts (ScriptWhole place name file)) ts3 = ap (λ r. bound r (λ _. gather_closing)) (gather_ok read_script_file (at parts (ScriptOpen place name)) read refl) in
+    subst (Stops stop) (sym (e1 ∙ e2 ∙ e3)) (stops_bound stop (gather read_closing (at parts (ScriptWhole place name file)) ts3) (λ _. gives tt) (piece_stops {X = Unit {0}} (λ _. Closing) read_closing (at parts (ScriptWhole place name file)) ts3 left m stop closing))

@@ -8,6 +8,7 @@ use Rattle.std.specs.Char.{is_ascii_digit}
 use Rattle.std.specs.Str.Parse.{digits_value}
 use Rattle.cube_lex.specs.Lexeme.{Lexeme}
 use Rattle.cube_lex.specs.Quoted.{unquoted}
+use Rattle.cube_lex.specs.declared.position.Position.{Position}
 use Rattle.dim_name.specs.Name.{is_name}
 use Rattle.grammar.specs.Grammar.{Grammar, one}
 use Rattle.grammar.specs.Tokens.{located, is_text_kind, is_number_kind, is_file, is_whole, name, file, whole}
@@ -60,7 +61,7 @@ whole_kept = record {
 -- The end of a cube.
 
 rules_kept : Keeps rules (λ r. IfSome r (λ x. IsFileText x.1))
-rules_kept = keeps_either (keeps_both keeps_any (λ line _. keeps_both file_kept (λ bytes is. keeps_both keeps_any (λ _ _. keeps_done is)))) (keeps_done tt)
+rules_kept = keeps_either (keeps_both keeps_any (λ place _. keeps_both file_kept (λ bytes is. keeps_both keeps_any (λ _ _. keeps_done is)))) (keeps_done tt)
 
 rank_kept : Keeps rank IsWritableRank
 rank_kept = keeps_both name_kept (λ shown is. keeps_both whole_kept (λ n small. keeps_done (is, small)))
@@ -145,7 +146,7 @@ order_words_kept : (totals : Bool) → Keeps (order_words totals) (IsWritableLin
 order_words_kept totals = keeps_either (auto_kept totals) (position_list_kept totals)
 
 order_kept : (totals : Bool) → Keeps (order totals) (λ o. IfSome o (λ x. IsWritableLine totals x.1))
-order_kept totals = keeps_either (keeps_both keeps_any (λ line _. keeps_both (order_words_kept totals) (λ list is. keeps_both keeps_any (λ _ _. keeps_done is)))) (keeps_done tt)
+order_kept totals = keeps_either (keeps_both keeps_any (λ place _. keeps_both (order_words_kept totals) (λ list is. keeps_both keeps_any (λ _ _. keeps_done is)))) (keeps_done tt)
 
 abbrev IsWritableEnd : Bool → Piece → Type 0
 IsWritableEnd totals (CubeEnd r o) = IfSome r (λ x. IsFileText x.1) × IfSome o (λ x. IsWritableLine totals x.1)
@@ -157,11 +158,11 @@ cube_end_kept totals = keeps_both keeps_any (λ _ _. keeps_both keeps_any (λ _ 
 -- Names and files.
 
 abbrev HasName : Piece → Type 0
-HasName (QuotedText line shown) = IsNameText shown
+HasName (QuotedText place shown) = IsNameText shown
 HasName other = Unit {0}
 
 abbrev HasFile : Piece → Type 0
-HasFile (QuotedText line bytes) = IsFileText bytes
+HasFile (QuotedText place bytes) = IsFileText bytes
 HasFile other = Unit {0}
 
 located_kept : {A : Type 0} {pick : Lexeme → Option A} {P : A → Type 0} → Keeps (one pick) P → Keeps (one (located pick)) (λ x. P x.1)
@@ -180,26 +181,26 @@ told e k ts left x u v read tokens =
     let (text, parts, is) = read_told e u ts x v left read in
     k.at text x (first_tokens text left (subst AreTokens parts tokens)) is.text
 
-pub naming_told : (ts left : List Lexeme) (line : ℕ) (shown : List ℕ) (u v : Unwatched) → read_naming u ts ≡ Ok (QuotedText line shown, v, left) → AreTokens ts → IsNameText shown
-naming_told ts left line shown u v read tokens = told naming_exact naming_kept ts left (QuotedText line shown) u v read tokens
+pub naming_told : (ts left : List Lexeme) (place : Position) (shown : List ℕ) (u v : Unwatched) → read_naming u ts ≡ Ok (QuotedText place shown, v, left) → AreTokens ts → IsNameText shown
+naming_told ts left place shown u v read tokens = told naming_exact naming_kept ts left (QuotedText place shown) u v read tokens
 
-pub taken_name : (ts left : List Lexeme) (n : ℕ × List ℕ) (u v : Unwatched) → take_one (unscanned {C = ModelTextFault}) (located name) u ts ≡ Ok (n, v, left) → AreTokens ts → IsNameText n.1
+pub taken_name : (ts left : List Lexeme) (n : Position × List ℕ) (u v : Unwatched) → take_one (unscanned {C = ModelTextFault}) (located name) u ts ≡ Ok (n, v, left) → AreTokens ts → IsNameText n.1
 unfolding read_naming
 taken_name ts left n u v read tokens = naming_told ts left n.0 n.1 u v (ap (λ r. bound r (λ m. gives (QuotedText m.0 m.1))) read) tokens
 
-pub script_file_told : (ts left : List Lexeme) (line : ℕ) (bytes : List ℕ) (u v : Unwatched) → read_script_file u ts ≡ Ok (QuotedText line bytes, v, left) → AreTokens ts → IsFileText bytes
-script_file_told ts left line bytes u v read tokens = told script_file_exact script_file_kept ts left (QuotedText line bytes) u v read tokens
+pub script_file_told : (ts left : List Lexeme) (place : Position) (bytes : List ℕ) (u v : Unwatched) → read_script_file u ts ≡ Ok (QuotedText place bytes, v, left) → AreTokens ts → IsFileText bytes
+script_file_told ts left place bytes u v read tokens = told script_file_exact script_file_kept ts left (QuotedText place bytes) u v read tokens
 
-pub cube_end_told : (totals : Bool) (ts left : List Lexeme) (r : Option (ℕ × List ℕ)) (o : Option (ℕ × List OrderWord)) (u v : Unwatched) → read_cube_end totals u ts ≡ Ok (CubeEnd r o, v, left) → AreTokens ts → IfSome r (λ x. IsFileText x.1) × IfSome o (λ x. IsWritableLine totals x.1)
+pub cube_end_told : (totals : Bool) (ts left : List Lexeme) (r : Option (Position × List ℕ)) (o : Option (Position × List OrderWord)) (u v : Unwatched) → read_cube_end totals u ts ≡ Ok (CubeEnd r o, v, left) → AreTokens ts → IfSome r (λ x. IsFileText x.1) × IfSome o (λ x. IsWritableLine totals x.1)
 cube_end_told totals ts left r o u v read tokens = told (cube_end_exact totals) (cube_end_kept totals) ts left (CubeEnd r o) u v read tokens
 
-pub order_written : (version : ℕ) (o : Option (ℕ × List OrderWord)) → IfSome o (λ x. IsWritableLine (has_totals version) x.1) → IfSome (order_of version o) (λ x. IsWritableOrder x.1.words)
+pub order_written : (version : ℕ) (o : Option (Position × List OrderWord)) → IfSome o (λ x. IsWritableLine (has_totals version) x.1) → IfSome (order_of version o) (λ x. IsWritableOrder x.1.words)
 order_written version None is = tt
 order_written version (Some o) is = is.0
 
 second_version : (version : ℕ) → IsTrue (has_totals version) → version ≡ 2
 second_version version e = grind (arith, e)
 
-pub order_stands : (version : ℕ) (o : Option (ℕ × List OrderWord)) → IfSome o (λ x. IsWritableLine (has_totals version) x.1) → IfSome (order_of version o) (λ x. IsLineIn version x.1)
+pub order_stands : (version : ℕ) (o : Option (Position × List OrderWord)) → IfSome o (λ x. IsWritableLine (has_totals version) x.1) → IfSome (order_of version o) (λ x. IsLineIn version x.1)
 order_stands version None is = tt
 order_stands version (Some o) is = record { version = refl; kinds = λ has. second_version version (is.1 has) }

@@ -2,11 +2,13 @@
 use Rattle.std.proofs.Common.{◌≡◌, ℕ, ◌&&◌, Bool, option_map, length, if◌then◌else◌, append_assoc, append-nil, List, [], ◌∷◌, ◌++◌, Option, Some, None, Ok, Err, true, false, codes, refl, ◌∙◌, ap, subst, inl, inr, ◌⊎◌}
 use Rattle.std.specs.Str.{str_eq_ignore_ascii_case}
 use Rattle.cube_lex.specs.Lexeme.{Lexeme}
+use Rattle.cube_lex.specs.Positions.{position_of}
 use Rattle.grammar.specs.Grammar.{Grammar, both, many}
 use Rattle.grammar.specs.Watch.{Watch, AllPass, Passes, Within, each_text}
 use Rattle.grammar.specs.Reading.{Unexpected, Refused, OutOfTurns, Read, Reader, starts, inside_result}
 use Rattle.grammar.specs.Tokens.{text, name, file, located, is_sign, is_word, is_text_kind, is_file}
 use Rattle.cube_lex.specs.Quoted.{unquoted}
+use Rattle.cube_lex.specs.declared.position.Position.{Position}
 use Rattle.dim_name.specs.Name.{is_name}
 use Rattle.grammar.proofs.Exact.{Exact, Always, Not, Outcome, Agrees, IsStuck, passes_one, passes_nothing, refuses_one, exact_gives, exact_then, exact_both, exact_made, exact_before}
 use Rattle.grammar.proofs.Begins.{Begins, HasToken, begins_both, exact_before_next, has_token, starts_many, made_is}
@@ -68,10 +70,10 @@ file_is_text t shown e =
     let (kind, _) = and_is (is_text_kind t.kind) (is_file (unquoted t.piece)) is in
     ap (λ b. if b then Some (unquoted t.piece) else None) kind ∙ ap (λ x. Some x) same
 
-located_into : {A : Type 0} (pick pick' : Lexeme → Option A) → ((t : Lexeme) (a : A) → pick t ≡ Some a → pick' t ≡ Some a) → (t : Lexeme) (x : ℕ × A) → located pick t ≡ Some x → located pick' t ≡ Some x
+located_into : {A : Type 0} (pick pick' : Lexeme → Option A) → ((t : Lexeme) (a : A) → pick t ≡ Some a → pick' t ≡ Some a) → (t : Lexeme) (x : Position × A) → located pick t ≡ Some x → located pick' t ≡ Some x
 located_into pick pick' into t x e =
-    let (a, picks, same) = mapped (λ a. (t.line, a)) (pick t) x e in
-    ap (option_map (λ a. (t.line, a))) (into t a picks) ∙ ap (λ y. Some y) same
+    let (a, picks, same) = mapped (λ a. (position_of t, a)) (pick t) x e in
+    ap (option_map (λ a. (position_of t, a))) (into t a picks) ∙ ap (λ y. Some y) same
 
 pub naming_into : (u : List Lexeme) (x : Piece) → naming u x → shown_text u x
 naming_into u x (v, w, n, parts, (t, is, picks), made) = (v, w, n, parts, (t, is, located_into name text name_is_text t n picks), made)

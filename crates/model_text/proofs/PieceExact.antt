@@ -4,9 +4,11 @@ use Rattle.std.proofs.lemmas.Bool.{or_parts}
 use Rattle.std.specs.Str.{str_eq_ignore_ascii_case}
 use Rattle.std.proofs.lemmas.Str.{IsUtf8-from_ascii, is_utf8-from_IsUtf8}
 use Rattle.cube_lex.specs.Lexeme.{Lexeme}
+use Rattle.cube_lex.specs.Positions.{nowhere, position_of}
 use Rattle.cube_lex.specs.declared.token.Kind.{Kind}
 use Rattle.cube_lex.specs.declared.token.Kind.TheVariants as kinds
 use Rattle.cube_lex.specs.Quoted.{unquoted}
+use Rattle.cube_lex.specs.declared.position.Position.{Position}
 use Rattle.grammar.specs.Grammar.{Grammar, one, both, either, done}
 use Rattle.grammar.specs.Watch.{Watch, unwatched, unscanned}
 use Rattle.grammar.specs.Reading.{take_one, both_of, gives, choose, starts}
@@ -29,25 +31,25 @@ pub use Rattle.lists.proofs.Found.{mapped}
 abbrev pub free : Watch Lexeme Unwatched ModelTextFault
 free = unwatched
 
--- Tokens with their lines.
+-- Tokens with their places.
 
-pub located_is : {A : Type 0} (pick : Lexeme → Option A) (t : Lexeme) (x : ℕ × A) → located pick t ≡ Some x → pick t ≡ Some x.1
-located_is pick t x e = let (a, picks, same) = mapped (λ a. (t.line, a)) (pick t) x e in picks ∙ ap (λ y. Some y.1) same
+pub located_is : {A : Type 0} (pick : Lexeme → Option A) (t : Lexeme) (x : Position × A) → located pick t ≡ Some x → pick t ≡ Some x.1
+located_is pick t x e = let (a, picks, same) = mapped (λ a. (position_of t, a)) (pick t) x e in picks ∙ ap (λ y. Some y.1) same
 
 pub located_is_value : {A : Type 0} {pick : Lexeme → Option A} → IsValue pick → IsValue (located pick)
 located_is_value {pick = pick} is = record { kind = λ t x e. is.kind t x.1 (located_is pick t x e) }
 
 -- `'a'`
 pub exact_located_name : Exact free (one (located name)) (one (located name)) (take_one unscanned (located name)) Always
-exact_located_name = exact_one unscanned (located name) (sample_of kinds.Text (39 ∷ 97 ∷ 39 ∷ [])) (0, 97 ∷ []) refl
+exact_located_name = exact_one unscanned (located name) (sample_of kinds.Text (39 ∷ 97 ∷ 39 ∷ [])) (nowhere, 97 ∷ []) refl
 
 -- `1`
 pub exact_located_whole : Exact free (one (located whole)) (one (located whole)) (take_one unscanned (located whole)) Always
-exact_located_whole = exact_one unscanned (located whole) (sample_of kinds.Number (49 ∷ [])) (0, 1) refl
+exact_located_whole = exact_one unscanned (located whole) (sample_of kinds.Number (49 ∷ [])) (nowhere, 1) refl
 
 -- `'a'`
 pub exact_located_file : Exact free (one (located file)) (one (located file)) (take_one unscanned (located file)) Always
-exact_located_file = exact_one unscanned (located file) (sample_of kinds.Text (39 ∷ 97 ∷ 39 ∷ [])) (0, 97 ∷ []) (ap (λ b. option_map (λ a. (0, a)) (if b then Some (97 ∷ []) else None)) (is_utf8-from_IsUtf8 (97 ∷ []) (IsUtf8-from_ascii (97 ∷ []) one_ascii)))
+exact_located_file = exact_one unscanned (located file) (sample_of kinds.Text (39 ∷ 97 ∷ 39 ∷ [])) (nowhere, 97 ∷ []) (ap (λ b. option_map (λ a. (nowhere, a)) (if b then Some (97 ∷ []) else None)) (is_utf8-from_IsUtf8 (97 ∷ []) (IsUtf8-from_ascii (97 ∷ []) one_ascii)))
 
 -- Pieces of one or two tokens.
 
@@ -61,15 +63,15 @@ closing_exact = exact_then (exact_sign unscanned (codes ";")) (λ _. exact_gives
 
 pub dimension_word_exact : Exact free dimension_word dimension_word read_dimension_word Always
 unfolding read_dimension_word
-dimension_word_exact = exact_then (exact_word unscanned (codes "DIM")) (λ line. exact_gives free (DimensionWord line))
+dimension_word_exact = exact_then (exact_word unscanned (codes "DIM")) (λ place. exact_gives free (DimensionWord place))
 
 pub cube_word_exact : Exact free cube_word cube_word read_cube_word Always
 unfolding read_cube_word
-cube_word_exact = exact_then (exact_word unscanned (codes "CUBE")) (λ line. exact_gives free (CubeWord line))
+cube_word_exact = exact_then (exact_word unscanned (codes "CUBE")) (λ place. exact_gives free (CubeWord place))
 
 pub script_word_exact : Exact free script_word script_word read_script_word Always
 unfolding read_script_word
-script_word_exact = exact_then (exact_word unscanned (codes "SCRIPT")) (λ line. exact_gives free (ScriptWord line))
+script_word_exact = exact_then (exact_word unscanned (codes "SCRIPT")) (λ place. exact_gives free (ScriptWord place))
 
 pub naming_exact : Exact free naming naming read_naming Always
 unfolding read_naming
@@ -90,7 +92,7 @@ rule_file_begins = begins_both (word_begins (codes "RULES") (codes "RULES"))
 
 rules_exact : Exact free rules rules read_rules (Not (is_word (codes "RULES")))
 unfolding read_rules
-rules_exact = exact_option (is_word (codes "RULES")) None rule_file_begins (exact_then (exact_word unscanned (codes "RULES")) (λ line. exact_then (exact_file unscanned) (λ bytes. exact_then (exact_sign unscanned (codes ";")) (λ _. exact_gives free (Some (line, bytes))))))
+rules_exact = exact_option (is_word (codes "RULES")) None rule_file_begins (exact_then (exact_word unscanned (codes "RULES")) (λ place. exact_then (exact_file unscanned) (λ bytes. exact_then (exact_sign unscanned (codes ";")) (λ _. exact_gives free (Some (place, bytes))))))
 
 -- The order line.
 
@@ -249,18 +251,18 @@ order_words_exact totals = exact_choose (is_word (codes "AUTO")) (auto_exact tot
     (λ u a rest h stops. (starts_text (auto_begins totals) u a rest h, stops))
     (λ u a rest h stops. (starts_text (position_list_begins totals) u a rest h, stops.list))
 
-abbrev line_end : Option (ℕ × List OrderWord) → Grammar Lexeme (Option (ℕ × List OrderWord))
+abbrev line_end : Option (Position × List OrderWord) → Grammar Lexeme (Option (Position × List OrderWord))
 line_end o = both (one (sign (codes ";"))) (λ _. done o)
 
-line_end_begins : (o : Option (ℕ × List OrderWord)) → Begins (line_end o) is_text false
+line_end_begins : (o : Option (Position × List OrderWord)) → Begins (line_end o) is_text false
 line_end_begins o = begins_both (sign_no_text (codes ";"))
 
-order_line_exact : (totals : Bool) → Exact free (order_line totals) (order_line totals) (both_of (take_one unscanned (word (codes "ORDER"))) (λ line. both_of (read_order_words totals) (λ list. both_of (take_one unscanned (sign (codes ";"))) (λ _. gives (Some (line, list)))))) Always
-order_line_exact totals = exact_then (exact_word unscanned (codes "ORDER")) (λ line. exact_both (order_words_exact totals)
-    (λ list. exact_then (exact_sign unscanned (codes ";")) (λ _. exact_gives free (Some (line, list))))
+order_line_exact : (totals : Bool) → Exact free (order_line totals) (order_line totals) (both_of (take_one unscanned (word (codes "ORDER"))) (λ place. both_of (read_order_words totals) (λ list. both_of (take_one unscanned (sign (codes ";"))) (λ _. gives (Some (place, list)))))) Always
+order_line_exact totals = exact_then (exact_word unscanned (codes "ORDER")) (λ place. exact_both (order_words_exact totals)
+    (λ list. exact_then (exact_sign unscanned (codes ";")) (λ _. exact_gives free (Some (place, list))))
     (λ list v b rest l _. record {
-      lag = starts_text (line_end_begins (Some (line, list))) v b rest l;
-      list = behind_list (codes ";") (done (Some (line, list))) goes_on close_ends refl v b rest l;
+      lag = starts_text (line_end_begins (Some (place, list))) v b rest l;
+      list = behind_list (codes ";") (done (Some (place, list))) goes_on close_ends refl v b rest l;
     }))
 
 order_exact : (totals : Bool) → Exact free (order totals) (order totals) (read_order totals) (Not (is_word (codes "ORDER")))
@@ -272,7 +274,7 @@ order_exact totals = exact_option (is_word (codes "ORDER")) None (begins_both (w
 order_line_begins : (totals : Bool) → Begins (order_line totals) (is_word (codes "RULES")) false
 order_line_begins totals = begins_both (word_begins (codes "ORDER") (codes "RULES"))
 
-order_first : (totals : Bool) (u : List Lexeme) (o : Option (ℕ × List OrderWord)) → order totals u o → (u ≡ []) ⊎ ((t : Lexeme) × (v : List Lexeme) × (u ≡ t ∷ v) × (is_word (codes "RULES") t ≡ false))
+order_first : (totals : Bool) (u : List Lexeme) (o : Option (Position × List OrderWord)) → order totals u o → (u ≡ []) ⊎ ((t : Lexeme) × (v : List Lexeme) × (u ≡ t ∷ v) × (is_word (codes "RULES") t ≡ false))
 order_first totals u o (inl h) = inr ((order_line_begins totals).at u o h)
 order_first totals u o (inr h) = inl h.0
 

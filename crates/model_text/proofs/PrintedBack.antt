@@ -1,4 +1,4 @@
--- What is written of a model text is read as a text with equal contents, but for lines.
+-- What is written of a model text is read as a text with equal contents, but for places.
 use Rattle.std.proofs.Common.{◌≡◌, ◌<◌, ◌^◌, ℕ, Bool, true, false, List, [], ◌∷◌, ◌++◌, length, map, codes, Result, Ok, Err, is_ok, OnOk, if◌then◌else◌, refl, sym, ap, ◌∙◌, subst, inl, append-nil, arith, IsTrue}
 use Rattle.std.proofs.lemmas.List.{length-map}
 use Rattle.std.proofs.lemmas.List.Elements.{All-map, All-weaker}
@@ -16,6 +16,7 @@ use Rattle.grammar.proofs.Spells.{split_at}
 use Rattle.dim_text.specs.Statement.{unit}
 use Rattle.dim_text.specs.Progress.{IsBuilt}
 use Rattle.cube_lex.specs.Written.{word_token, sign_token}
+use Rattle.cube_lex.specs.declared.position.Position.{Position}
 use Rattle.dim_text.specs.Spelled.{whole_token}
 use Rattle.model_text.specs.Answers.{IsModelText}
 use Rattle.model_text.specs.Contents.{Contents, IsContents, is_version, AreDimensions, dimension_names}
@@ -32,7 +33,7 @@ use Rattle.model_text.specs.declared.parts.CubeText.{CubeText}
 use Rattle.model_text.specs.declared.parts.ScriptText.{ScriptText}
 use Rattle.model_text.proofs.Going.{Goes, goes_behind, goes_both, goes_unit, goes_as}
 use Rattle.model_text.proofs.Again.{outside_of, into_closing, Dims, dims_seen, block_name, AreDims, dims_go, cubes_seen, cubes_go, scripts_seen, scripts_go}
-use Rattle.model_text.proofs.SpelledPieces.{IsOnLine, version_spells, closing_spells}
+use Rattle.model_text.proofs.SpelledPieces.{IsPlaced, version_spells, closing_spells}
 
 -- the versions are small numbers
 small_version : (n : ℕ) → IsTrue (is_version n) → n < 2 ^ 31
@@ -44,11 +45,11 @@ no_dims = record { blocks = []; names = []; texts = [] }
 abbrev in_version : ℕ → Seen
 in_version version = dims_seen version no_dims
 
-version_passes : (version : ℕ) → IsTrue (is_version version) → (u : List Lexeme) (x : Piece) → statement.version u x → IsOnLine (λ line. Version line version) x → Passes watching nothing_seen u (in_version version)
-version_passes version known u x h (line, same) = passes_one watching nothing_seen (in_version version) u (inl (x, inl h, ap (added nothing_seen) (ap (gathered (at no_parts Nothing)) same ∙ taken (is_version version) version line known))) where
-  taken : (known : Bool) (n line : ℕ) → known ≡ true → ◌≡◌ {A = Result Given ModelTextFault} (if known then Ok (at (record no_parts { version = n }) Nothing) else refused line causes.WrongVersion) (Ok (at (record { version = n; names = []; cubes = []; scripts = [] }) Nothing))
-  taken true n line e = refl
-  taken false n line e = cc
+version_passes : (version : ℕ) → IsTrue (is_version version) → (u : List Lexeme) (x : Piece) → statement.version u x → IsPlaced (λ place. Version place version) x → Passes watching nothing_seen u (in_version version)
+version_passes version known u x h (place, same) = passes_one watching nothing_seen (in_version version) u (inl (x, inl h, ap (added nothing_seen) (ap (gathered (at no_parts Nothing)) same ∙ taken (is_version version) version place known))) where
+  taken : (known : Bool) (n : ℕ) (place : Position) → known ≡ true → ◌≡◌ {A = Result Given ModelTextFault} (if known then Ok (at (record no_parts { version = n }) Nothing) else refused place causes.WrongVersion) (Ok (at (record { version = n; names = []; cubes = []; scripts = [] }) Nothing))
+  taken true n place e = refl
+  taken false n place e = cc
 
 closing_passes : (version : ℕ) (v : List Lexeme) (y : Piece) → closing v y → y ≡ Closing → Passes watching (in_version version) v (in_version version)
 closing_passes version v y h same = passes_one watching (in_version version) (in_version version) v (inl (y, into_closing v y h, ap (added (in_version version)) (ap (gathered (in_version version).given) same)))

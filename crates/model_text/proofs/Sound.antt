@@ -7,6 +7,7 @@ use Rattle.std.proofs.lemmas.List.{map-append}
 use Rattle.std.proofs.lemmas.List.Elements.{All-push, All-nil}
 use Rattle.std.proofs.lemmas.Map.Keys.{IsDistinct-push}
 use Rattle.cube_lex.specs.Lexeme.{Lexeme}
+use Rattle.cube_lex.specs.declared.position.Position.{Position}
 use Rattle.grammar.specs.Watch.{AllPass, Passes}
 use Rattle.dim_name.specs.Name.{is_same_name, place_of}
 use Rattle.dim_core.proofs.Naming.{same_names}
@@ -46,14 +47,14 @@ record NewScript (parts : Parts) (shown : List ℕ) : Type 0 where
 -- what holds of the statement that is being read
 abbrev IsDue : Parts → Current → Type 0
 IsDue parts Nothing = Unit {0}
-IsDue parts (DimensionDue line) = length parts.names < 256
-IsDue parts (CubeDue line) = length parts.cubes < 64
-IsDue parts (ScriptDue line) = length parts.scripts < 256
-IsDue parts (DimensionOpen line shown) = NewDimension parts shown
-IsDue parts (DimensionBody line shown) = NewDimension parts shown
-IsDue parts (CubeOpen line shown dims) = NewCube parts shown dims
-IsDue parts (ScriptOpen line shown) = NewScript parts shown
-IsDue parts (ScriptWhole line shown file) = NewScript parts shown
+IsDue parts (DimensionDue place) = length parts.names < 256
+IsDue parts (CubeDue place) = length parts.cubes < 64
+IsDue parts (ScriptDue place) = length parts.scripts < 256
+IsDue parts (DimensionOpen place shown) = NewDimension parts shown
+IsDue parts (DimensionBody place shown) = NewDimension parts shown
+IsDue parts (CubeOpen place shown dims) = NewCube parts shown dims
+IsDue parts (ScriptOpen place shown) = NewScript parts shown
+IsDue parts (ScriptWhole place shown file) = NewScript parts shown
 
 record Holds (g : Given) : Type 0 where
   sound : IsSound g.parts
@@ -70,9 +71,9 @@ room_256 n e = grind (arith, e)
 room_64 : (n : ℕ) → nat_le 64 n ≡ false → n < 64
 room_64 n e = grind (arith, e)
 
-unless_then : (b : Bool) (line : ℕ) (cause : ModelTextCause) (parts : Parts) (current : Current) → IsSound parts → (b ≡ false → IsDue parts current) → Then (unless b line cause parts current)
-unless_then true line cause parts current sound due = tt
-unless_then false line cause parts current sound due = record { sound = sound; due = due refl }
+unless_then : (b : Bool) (place : Position) (cause : ModelTextCause) (parts : Parts) (current : Current) → IsSound parts → (b ≡ false → IsDue parts current) → Then (unless b place cause parts current)
+unless_then true place cause parts current sound due = tt
+unless_then false place cause parts current sound due = record { sound = sound; due = due refl }
 
 none_distinct : {K : Type 0} (eq : K → K → Bool) → IsDistinct eq []
 unfolding IsDistinct
@@ -81,40 +82,40 @@ none_distinct eq = tt
 no_dims : (n : ℕ) → AreDimensions n []
 no_dims n = record { there = All-nil _; distinct = none_distinct nat_eq }
 
-shown_then : (parts : Parts) (line : ℕ) (shown : List ℕ) (current : Current) → IsSound parts → IsDue parts current → Then (with_text parts line shown current)
-shown_then parts line shown Nothing sound due = record { sound = sound; due = due }
-shown_then parts line shown (DimensionDue l) sound due = unless_then (has_dimension parts shown) line causes.Duplicate parts (DimensionOpen l shown) sound (λ new. record { room = due; new = new })
-shown_then parts line shown (CubeDue l) sound due = unless_then (has_cube parts shown) line causes.Duplicate parts (CubeOpen l shown []) sound (λ new. record { room = due; new = new; dims = no_dims (length parts.names) })
-shown_then parts line shown (ScriptDue l) sound due = unless_then (has_script parts shown) line causes.Duplicate parts (ScriptOpen l shown) sound (λ new. record { room = due; new = new })
-shown_then parts line shown (DimensionOpen l n) sound due = record { sound = sound; due = due }
-shown_then parts line shown (DimensionBody l n) sound due = record { sound = sound; due = due }
-shown_then parts line shown (CubeOpen l n dims) sound due = record { sound = sound; due = due }
-shown_then parts line shown (ScriptOpen l n) sound due = record { sound = sound; due = due }
-shown_then parts line shown (ScriptWhole l n file) sound due = record { sound = sound; due = due }
+shown_then : (parts : Parts) (place : Position) (shown : List ℕ) (current : Current) → IsSound parts → IsDue parts current → Then (with_text parts place shown current)
+shown_then parts place shown Nothing sound due = record { sound = sound; due = due }
+shown_then parts place shown (DimensionDue l) sound due = unless_then (has_dimension parts shown) place causes.Duplicate parts (DimensionOpen l shown) sound (λ new. record { room = due; new = new })
+shown_then parts place shown (CubeDue l) sound due = unless_then (has_cube parts shown) place causes.Duplicate parts (CubeOpen l shown []) sound (λ new. record { room = due; new = new; dims = no_dims (length parts.names) })
+shown_then parts place shown (ScriptDue l) sound due = unless_then (has_script parts shown) place causes.Duplicate parts (ScriptOpen l shown) sound (λ new. record { room = due; new = new })
+shown_then parts place shown (DimensionOpen l n) sound due = record { sound = sound; due = due }
+shown_then parts place shown (DimensionBody l n) sound due = record { sound = sound; due = due }
+shown_then parts place shown (CubeOpen l n dims) sound due = record { sound = sound; due = due }
+shown_then parts place shown (ScriptOpen l n) sound due = record { sound = sound; due = due }
+shown_then parts place shown (ScriptWhole l n file) sound due = record { sound = sound; due = due }
 
-dimension_then : (parts : Parts) (line : ℕ) (o : Option ℕ) (current : Current) → ((k : ℕ) → o ≡ Some k → k < length parts.names) → IsSound parts → IsDue parts current → Then (with_dimension parts line o current)
-dimension_then parts line None (CubeOpen l n dims) there sound due = tt
-dimension_then parts line (Some k) (CubeOpen l n dims) there sound due = unless_then (list_any (nat_eq k) dims) line causes.Duplicate parts (CubeOpen l n (dims ++ k ∷ [])) sound (λ new. record {
+dimension_then : (parts : Parts) (place : Position) (o : Option ℕ) (current : Current) → ((k : ℕ) → o ≡ Some k → k < length parts.names) → IsSound parts → IsDue parts current → Then (with_dimension parts place o current)
+dimension_then parts place None (CubeOpen l n dims) there sound due = tt
+dimension_then parts place (Some k) (CubeOpen l n dims) there sound due = unless_then (list_any (nat_eq k) dims) place causes.Duplicate parts (CubeOpen l n (dims ++ k ∷ [])) sound (λ new. record {
   room = due.room;
   new = due.new;
   dims = record { there = All-push (λ number. number < length parts.names) dims k due.dims.there (there k refl); distinct = IsDistinct-push nat_eq_equiv dims k due.dims.distinct new };
 })
-dimension_then parts line None Nothing there sound due = record { sound = sound; due = due }
-dimension_then parts line (Some k) Nothing there sound due = record { sound = sound; due = due }
-dimension_then parts line None (DimensionDue l) there sound due = record { sound = sound; due = due }
-dimension_then parts line (Some k) (DimensionDue l) there sound due = record { sound = sound; due = due }
-dimension_then parts line None (CubeDue l) there sound due = record { sound = sound; due = due }
-dimension_then parts line (Some k) (CubeDue l) there sound due = record { sound = sound; due = due }
-dimension_then parts line None (ScriptDue l) there sound due = record { sound = sound; due = due }
-dimension_then parts line (Some k) (ScriptDue l) there sound due = record { sound = sound; due = due }
-dimension_then parts line None (DimensionOpen l n) there sound due = record { sound = sound; due = due }
-dimension_then parts line (Some k) (DimensionOpen l n) there sound due = record { sound = sound; due = due }
-dimension_then parts line None (DimensionBody l n) there sound due = record { sound = sound; due = due }
-dimension_then parts line (Some k) (DimensionBody l n) there sound due = record { sound = sound; due = due }
-dimension_then parts line None (ScriptOpen l n) there sound due = record { sound = sound; due = due }
-dimension_then parts line (Some k) (ScriptOpen l n) there sound due = record { sound = sound; due = due }
-dimension_then parts line None (ScriptWhole l n file) there sound due = record { sound = sound; due = due }
-dimension_then parts line (Some k) (ScriptWhole l n file) there sound due = record { sound = sound; due = due }
+dimension_then parts place None Nothing there sound due = record { sound = sound; due = due }
+dimension_then parts place (Some k) Nothing there sound due = record { sound = sound; due = due }
+dimension_then parts place None (DimensionDue l) there sound due = record { sound = sound; due = due }
+dimension_then parts place (Some k) (DimensionDue l) there sound due = record { sound = sound; due = due }
+dimension_then parts place None (CubeDue l) there sound due = record { sound = sound; due = due }
+dimension_then parts place (Some k) (CubeDue l) there sound due = record { sound = sound; due = due }
+dimension_then parts place None (ScriptDue l) there sound due = record { sound = sound; due = due }
+dimension_then parts place (Some k) (ScriptDue l) there sound due = record { sound = sound; due = due }
+dimension_then parts place None (DimensionOpen l n) there sound due = record { sound = sound; due = due }
+dimension_then parts place (Some k) (DimensionOpen l n) there sound due = record { sound = sound; due = due }
+dimension_then parts place None (DimensionBody l n) there sound due = record { sound = sound; due = due }
+dimension_then parts place (Some k) (DimensionBody l n) there sound due = record { sound = sound; due = due }
+dimension_then parts place None (ScriptOpen l n) there sound due = record { sound = sound; due = due }
+dimension_then parts place (Some k) (ScriptOpen l n) there sound due = record { sound = sound; due = due }
+dimension_then parts place None (ScriptWhole l n file) there sound due = record { sound = sound; due = due }
+dimension_then parts place (Some k) (ScriptWhole l n file) there sound due = record { sound = sound; due = due }
 
 pub any-map : {X Y : Type 0} (p : Y → Bool) (f : X → Y) (xs : List X) → list_any p (map f xs) ≡ list_any (λ x. p (f x)) xs
 any-map p f [] = refl
@@ -123,9 +124,9 @@ any-map p f (x ∷ xs) = ap (λ b. p (f x) || b) (any-map p f xs)
 one_more : {X : Type 0} (xs : List X) (x : X) (n : ℕ) → length xs < n → length (xs ++ x ∷ []) ≤ n
 one_more xs x n h = omega (arith, h, length-append xs (x ∷ []))
 
-end_then : (parts : Parts) (rules : Option (ℕ × List ℕ)) (order : Option (ℕ × List OrderWord)) (current : Current) → IsSound parts → IsDue parts current → Holds (with_end parts rules order current)
-end_then parts rules order (CubeOpen line shown dims) sound due =
-    let cube : CubeText = cube_of parts line shown dims rules order in
+end_then : (parts : Parts) (rules : Option (Position × List ℕ)) (order : Option (Position × List OrderWord)) (current : Current) → IsSound parts → IsDue parts current → Holds (with_end parts rules order current)
+end_then parts rules order (CubeOpen place shown dims) sound due =
+    let cube : CubeText = cube_of parts place shown dims rules order in
     record {
       sound = record {
         few_names = sound.few_names;
@@ -149,8 +150,8 @@ end_then parts rules order (ScriptWhole l n file) sound due = record { sound = s
 
 closed_then : (parts : Parts) (current : Current) → IsSound parts → IsDue parts current → Holds (closed parts current)
 closed_then parts (DimensionOpen l n) sound due = record { sound = sound; due = due }
-closed_then parts (ScriptWhole line shown file) sound due =
-    let script : ScriptText = record { line = line; name = shown; file = file } in
+closed_then parts (ScriptWhole place shown file) sound due =
+    let script : ScriptText = record { at = place; name = shown; file = file } in
     record {
       sound = record {
         few_names = sound.few_names;
@@ -182,21 +183,21 @@ version_due parts number (CubeOpen l n dims) due = record { room = due.room; new
 version_due parts number (ScriptOpen l n) due = record { room = due.room; new = due.new }
 version_due parts number (ScriptWhole l n file) due = record { room = due.room; new = due.new }
 
-version_then : (g : Given) (line number : ℕ) (b : Bool) → Holds g → Then (if b then Ok (at (record g.parts { version = number }) g.current) else refused line causes.WrongVersion)
-version_then g line number false h = tt
-version_then g line number true h = record {
+version_then : (g : Given) (place : Position) (number : ℕ) (b : Bool) → Holds g → Then (if b then Ok (at (record g.parts { version = number }) g.current) else refused place causes.WrongVersion)
+version_then g place number false h = tt
+version_then g place number true h = record {
   sound = record { few_names = h.sound.few_names; few_cubes = h.sound.few_cubes; few_scripts = h.sound.few_scripts; names = h.sound.names; cubes = h.sound.cubes; scripts = h.sound.scripts; cube_dims = h.sound.cube_dims };
   due = version_due g.parts number g.current h.due;
 }
 
 gathered_then : (g : Given) (x : Piece) → Holds g → Then (gathered g x)
-gathered_then g (Version line number) h = version_then g line number (is_version number) h
+gathered_then g (Version place number) h = version_then g place number (is_version number) h
 gathered_then g Closing h = closed_then g.parts g.current h.sound h.due
-gathered_then g (DimensionWord line) h = unless_then (dimensions_are_full g.parts) line causes.TooMany g.parts (DimensionDue line) h.sound (λ e. room_256 (length g.parts.names) e)
-gathered_then g (CubeWord line) h = unless_then (cubes_are_full g.parts) line causes.TooMany g.parts (CubeDue line) h.sound (λ e. room_64 (length g.parts.cubes) e)
-gathered_then g (ScriptWord line) h = unless_then (scripts_are_full g.parts) line causes.TooMany g.parts (ScriptDue line) h.sound (λ e. room_256 (length g.parts.scripts) e)
-gathered_then g (QuotedText line shown) h = shown_then g.parts line shown g.current h.sound h.due
-gathered_then g (CubeDimension line shown) h = dimension_then g.parts line (place_of g.parts.names shown) g.current (λ k e. (position-Some (is_same_name shown) g.parts.names k [] e).0) h.sound h.due
+gathered_then g (DimensionWord place) h = unless_then (dimensions_are_full g.parts) place causes.TooMany g.parts (DimensionDue place) h.sound (λ e. room_256 (length g.parts.names) e)
+gathered_then g (CubeWord place) h = unless_then (cubes_are_full g.parts) place causes.TooMany g.parts (CubeDue place) h.sound (λ e. room_64 (length g.parts.cubes) e)
+gathered_then g (ScriptWord place) h = unless_then (scripts_are_full g.parts) place causes.TooMany g.parts (ScriptDue place) h.sound (λ e. room_256 (length g.parts.scripts) e)
+gathered_then g (QuotedText place shown) h = shown_then g.parts place shown g.current h.sound h.due
+gathered_then g (CubeDimension place shown) h = dimension_then g.parts place (place_of g.parts.names shown) g.current (λ k e. (position-Some (is_same_name shown) g.parts.names k [] e).0) h.sound h.due
 gathered_then g (CubeEnd rules order) h = end_then g.parts rules order g.current h.sound h.due
 
 -- A dimension more.
@@ -219,7 +220,7 @@ name_then parts shown sound new = record {
 }
 
 block_then : (parts : Parts) (current : Current) → IsSound parts → IsDue parts current → IsSound (with_name_of parts current)
-block_then parts (DimensionBody line shown) sound due = name_then parts shown sound due
+block_then parts (DimensionBody place shown) sound due = name_then parts shown sound due
 block_then parts Nothing sound due = sound
 block_then parts (DimensionDue l) sound due = sound
 block_then parts (CubeDue l) sound due = sound

@@ -1,4 +1,4 @@
--- Each piece as it is written is read as that piece again, on its new line.
+-- Each piece as it is written is read as that piece again, at its new place.
 use Rattle.std.proofs.Common.{◌≡◌, ◌<◌, ◌^◌, ℕ, List, [], ◌∷◌, ◌++◌, true, Option, Some, None, option_map, IfSome, ◌||◌, refl, sym, ap, ◌∙◌, subst, inl, append-nil, length, codes, IsTrue, Bool, false, arith}
 use Rattle.std.proofs.lemmas.List.Elements.{All-nil, All-cons, All-head, All-tail}
 use Rattle.std.specs.List.{All, AllZip, flat_map}
@@ -6,10 +6,12 @@ use Rattle.cube_lex.specs.Lexeme.{Lexeme}
 use Rattle.cube_lex.specs.Quoted.{unquoted}
 use Rattle.cube_lex.specs.Written.{Spelling}
 use Rattle.cube_lex.proofs.Quotes.{unquoted-quoted}
+use Rattle.cube_lex.specs.Positions.{position_of}
 use Rattle.dim_name.specs.Name.{is_name}
 use Rattle.grammar.specs.Grammar.{Grammar, either}
 use Rattle.grammar.specs.Tokens.{is_text_kind, is_file, file, located}
 use Rattle.cube_lex.specs.Written.{word_token, sign_token, text_token}
+use Rattle.cube_lex.specs.declared.position.Position.{Position}
 use Rattle.dim_text.specs.Spelled.{whole_token}
 use Rattle.grammar.proofs.Spells.{Spells, Picks, spells_done, spells_next, spells_both, spells_left, spells_right, spells_made, spells_many}
 use Rattle.dim_text.proofs.SpelledStatements.{picks_word, picks_sign, picks_name, picks_whole}
@@ -34,49 +36,49 @@ picks_file bytes is = record {
       (unquoted t.piece, cond-true _ (Some (unquoted t.piece)) _ (and_both _ _ kind filed), same));
 }
 
--- a token with its line
+-- a token with its place
 picks_located : {A : Type 0} {pick : Lexeme → Option A} {token : Spelling} {P : A → Type 0} → Picks pick token P → Picks (located pick) token (λ x. P x.1)
-picks_located picks = record { at = λ t e. (let (a, takes, p) = picks.at t e in ((t.line, a), ap (option_map (λ x. (t.line, x))) takes, p)) }
+picks_located picks = record { at = λ t e. (let (a, takes, p) = picks.at t e in ((position_of t, a), ap (option_map (λ x. (position_of t, x))) takes, p)) }
 
 -- Pieces of one or two tokens.
 
--- it is this piece on some line
-abbrev pub IsOnLine : (ℕ → Piece) → Piece → Type 0
-IsOnLine on x = (line : ℕ) × (x ≡ on line)
+-- it is this piece at some place
+abbrev pub IsPlaced : (Position → Piece) → Piece → Type 0
+IsPlaced on x = (place : Position) × (x ≡ on place)
 
-pub version_spells : (n : ℕ) → n < 2 ^ 31 → Spells version (word_token (codes "MODEL") ∷ whole_token n ∷ []) (IsOnLine (λ line. Version line n))
+pub version_spells : (n : ℕ) → n < 2 ^ 31 → Spells version (word_token (codes "MODEL") ∷ whole_token n ∷ []) (IsPlaced (λ place. Version place n))
 version_spells n small = spells_next (picks_word (codes "MODEL")) (λ _ _. spells_next (picks_located (picks_whole n small)) (λ x same. spells_done (Version x.0 x.1) (x.0, ap (Version x.0) same)))
 
 pub closing_spells : Spells closing (sign_token (codes ";") ∷ []) (λ x. x ≡ Closing)
 closing_spells = spells_next (picks_sign (codes ";")) (λ _ _. spells_done Closing refl)
 
-pub dimension_word_spells : Spells dimension_word (word_token (codes "DIM") ∷ []) (IsOnLine DimensionWord)
-dimension_word_spells = spells_next (picks_word (codes "DIM")) (λ line _. spells_done (DimensionWord line) (line, refl))
+pub dimension_word_spells : Spells dimension_word (word_token (codes "DIM") ∷ []) (IsPlaced DimensionWord)
+dimension_word_spells = spells_next (picks_word (codes "DIM")) (λ place _. spells_done (DimensionWord place) (place, refl))
 
-pub cube_word_spells : Spells cube_word (word_token (codes "CUBE") ∷ []) (IsOnLine CubeWord)
-cube_word_spells = spells_next (picks_word (codes "CUBE")) (λ line _. spells_done (CubeWord line) (line, refl))
+pub cube_word_spells : Spells cube_word (word_token (codes "CUBE") ∷ []) (IsPlaced CubeWord)
+cube_word_spells = spells_next (picks_word (codes "CUBE")) (λ place _. spells_done (CubeWord place) (place, refl))
 
-pub script_word_spells : Spells script_word (word_token (codes "SCRIPT") ∷ []) (IsOnLine ScriptWord)
-script_word_spells = spells_next (picks_word (codes "SCRIPT")) (λ line _. spells_done (ScriptWord line) (line, refl))
+pub script_word_spells : Spells script_word (word_token (codes "SCRIPT") ∷ []) (IsPlaced ScriptWord)
+script_word_spells = spells_next (picks_word (codes "SCRIPT")) (λ place _. spells_done (ScriptWord place) (place, refl))
 
-pub naming_spells : (shown : List ℕ) → IsTrue (is_name shown) → Spells naming (text_token shown ∷ []) (IsOnLine (λ line. QuotedText line shown))
+pub naming_spells : (shown : List ℕ) → IsTrue (is_name shown) → Spells naming (text_token shown ∷ []) (IsPlaced (λ place. QuotedText place shown))
 naming_spells shown is = spells_next (picks_located (picks_name shown is)) (λ x same. spells_done (QuotedText x.0 x.1) (x.0, ap (QuotedText x.0) same))
 
-pub script_file_spells : (bytes : List ℕ) → IsTrue (is_file bytes) → Spells script_file (text_token bytes ∷ []) (IsOnLine (λ line. QuotedText line bytes))
+pub script_file_spells : (bytes : List ℕ) → IsTrue (is_file bytes) → Spells script_file (text_token bytes ∷ []) (IsPlaced (λ place. QuotedText place bytes))
 script_file_spells bytes is = spells_next (picks_located (picks_file bytes is)) (λ x same. spells_done (QuotedText x.0 x.1) (x.0, ap (QuotedText x.0) same))
 
-pub dimension_behind_spells : (before shown : List ℕ) → IsTrue (is_name shown) → Spells (dimension_behind before) (dimension_spelled before shown) (IsOnLine (λ line. CubeDimension line shown))
+pub dimension_behind_spells : (before shown : List ℕ) → IsTrue (is_name shown) → Spells (dimension_behind before) (dimension_spelled before shown) (IsPlaced (λ place. CubeDimension place shown))
 dimension_behind_spells before shown is = spells_next (picks_sign before) (λ _ _. spells_next (picks_located (picks_name shown is)) (λ x same. spells_done (CubeDimension x.0 x.1) (x.0, ap (CubeDimension x.0) same)))
 
 -- The rule file.
 
--- the same, whatever the lines
-abbrev pub IsSameBehind : {A : Type 0} → Option (ℕ × A) → Option (ℕ × A) → Type 0
+-- the same, whatever the places
+abbrev pub IsSameBehind : {A : Type 0} → Option (Position × A) → Option (Position × A) → Type 0
 IsSameBehind x y = option_map (λ a. a.1) y ≡ option_map (λ a. a.1) x
 
-rules_spells : (r : Option (ℕ × List ℕ)) → IfSome r (λ x. IsFileText x.1) → Spells rules (rules_spelled r) (IsSameBehind r)
+rules_spells : (r : Option (Position × List ℕ)) → IfSome r (λ x. IsFileText x.1) → Spells rules (rules_spelled r) (IsSameBehind r)
 rules_spells None is = spells_right (spells_done None refl)
-rules_spells (Some r) is = spells_left (spells_next (picks_word (codes "RULES")) (λ line _. spells_next (picks_file r.1 is.0) (λ bytes same. spells_next (picks_sign (codes ";")) (λ _ _. spells_done (Some (line, bytes)) (ap (λ x. Some x) same)))))
+rules_spells (Some r) is = spells_left (spells_next (picks_word (codes "RULES")) (λ place _. spells_next (picks_file r.1 is.0) (λ bytes same. spells_next (picks_sign (codes ";")) (λ _ _. spells_done (Some (place, bytes)) (ap (λ x. Some x) same)))))
 
 -- The order line.
 
@@ -182,30 +184,30 @@ order_words_spells totals list is can = by (has_auto list) refl
     by true has = spells_left (alone_spells totals list has (is.auto_alone has) is.each can)
     by false none = spells_right (position_list_spells totals list is.some (are_positions totals list is.each none can))
 
--- the words of this order line, whatever the line of its first word
-abbrev pub HasPositions : Option (ℕ × OrderLine) → Option (ℕ × List OrderWord) → Type 0
+-- the words of this order line, whatever the place of its first word
+abbrev pub HasPositions : Option (Position × OrderLine) → Option (Position × List OrderWord) → Type 0
 HasPositions o again = option_map (λ a. a.1) again ≡ option_map (λ a. a.1.words) o
 
 -- what tells leaf cells and consolidated cells apart may stand in it
-abbrev pub MayStand : Bool → Option (ℕ × OrderLine) → Type 0
+abbrev pub MayStand : Bool → Option (Position × OrderLine) → Type 0
 MayStand totals o = IfSome o (λ x. IsTrue (has_kinds x.1.words) → IsTrue totals)
 
-order_spells : (totals : Bool) (o : Option (ℕ × OrderLine)) → IfSome o (λ x. IsWritableOrder x.1.words) → MayStand totals o → Spells (order totals) (order_spelled o) (HasPositions o)
+order_spells : (totals : Bool) (o : Option (Position × OrderLine)) → IfSome o (λ x. IsWritableOrder x.1.words) → MayStand totals o → Spells (order totals) (order_spelled o) (HasPositions o)
 order_spells totals None is can = spells_right (spells_done None refl)
-order_spells totals (Some o) is can = spells_left (spells_next (picks_word (codes "ORDER")) (λ line _. spells_both {xs = positions_spelled o.1.words} {ys = sign_token (codes ";") ∷ []} (order_words_spells totals o.1.words is can)
-    (λ list same. spells_next (picks_sign (codes ";")) (λ _ _. spells_done (Some (line, list)) (ap (λ x. Some x) same)))))
+order_spells totals (Some o) is can = spells_left (spells_next (picks_word (codes "ORDER")) (λ place _. spells_both {xs = positions_spelled o.1.words} {ys = sign_token (codes ";") ∷ []} (order_words_spells totals o.1.words is can)
+    (λ list same. spells_next (picks_sign (codes ";")) (λ _ _. spells_done (Some (place, list)) (ap (λ x. Some x) same)))))
 
 -- The end of a cube.
 
--- it is that end of a cube, but for its lines
-pub record IsEnd (r : Option (ℕ × List ℕ)) (o : Option (ℕ × OrderLine)) (x : Piece) : Type 0 where
-  pub r_again : Option (ℕ × List ℕ)
-  pub o_again : Option (ℕ × List OrderWord)
+-- it is that end of a cube, but for its places
+pub record IsEnd (r : Option (Position × List ℕ)) (o : Option (Position × OrderLine)) (x : Piece) : Type 0 where
+  pub r_again : Option (Position × List ℕ)
+  pub o_again : Option (Position × List OrderWord)
   pub is : x ≡ CubeEnd r_again o_again
   pub r_same : IsSameBehind r r_again
   pub o_same : HasPositions o o_again
 
-pub cube_end_spells : (totals : Bool) (r : Option (ℕ × List ℕ)) (o : Option (ℕ × OrderLine)) → IfSome r (λ x. IsFileText x.1) → IfSome o (λ x. IsWritableOrder x.1.words) → MayStand totals o → Spells (cube_end totals) (cube_end_spelled r o) (IsEnd r o)
+pub cube_end_spells : (totals : Bool) (r : Option (Position × List ℕ)) (o : Option (Position × OrderLine)) → IfSome r (λ x. IsFileText x.1) → IfSome o (λ x. IsWritableOrder x.1.words) → MayStand totals o → Spells (cube_end totals) (cube_end_spelled r o) (IsEnd r o)
 cube_end_spells totals r o r_is o_is can = spells_next (picks_sign (codes ")")) (λ _ _. spells_next (picks_sign (codes ";")) (λ _ _. spells_both {xs = rules_spelled r} {ys = order_spelled o ++ ending_spelled} (rules_spells r r_is)
     (λ r_again r_same. spells_both {xs = order_spelled o} {ys = ending_spelled} (order_spells totals o o_is can)
     (λ o_again o_same. spells_next (picks_word (codes "END")) (λ _ _. spells_next (picks_sign (codes ";"))

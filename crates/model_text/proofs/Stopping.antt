@@ -3,6 +3,7 @@ use Rattle.std.proofs.Common.{◌≡◌, ℕ, List, [], ◌∷◌, ◌++◌, tru
 use Rattle.std.specs.List.{All}
 use Rattle.cube_lex.specs.Lexeme.{Lexeme}
 use Rattle.cube_lex.specs.Lexed.{IsWellFormed}
+use Rattle.cube_lex.specs.declared.position.Position.{Position}
 use Rattle.grammar.specs.Grammar.{Grammar}
 use Rattle.grammar.specs.Watch.{Watch}
 use Rattle.grammar.specs.Reading.{Read, Reader, unit_of, gives, bound, inside_result, all_of, starts}
@@ -55,20 +56,20 @@ pub head_stops : (blocks : List Progress) (parts : Parts) (ts : List Lexeme) (st
 unfolding read_dimension
 head_stops blocks parts ts stop e = stops_bound stop _ (λ _. read_dimension_body) (stops_outside (seen blocks parts) stop (read_dimension_head (at parts Nothing) ts) e)
 
-behind_head : (blocks : List Progress) (parts : Parts) (ts rest : List Lexeme) (line : ℕ) (name : List ℕ) → read_dimension_head (at parts Nothing) ts ≡ Ok (tt, at parts (DimensionBody line name), rest) → read_dimension (seen blocks parts) ts ≡ inside_result (with_block (with_given (seen blocks parts) (at parts (DimensionBody line name)))) of_block (read_body (opened line name) rest)
+behind_head : (blocks : List Progress) (parts : Parts) (ts rest : List Lexeme) (place : Position) (name : List ℕ) → read_dimension_head (at parts Nothing) ts ≡ Ok (tt, at parts (DimensionBody place name), rest) → read_dimension (seen blocks parts) ts ≡ inside_result (with_block (with_given (seen blocks parts) (at parts (DimensionBody place name)))) of_block (read_body (opened place name) rest)
 unfolding read_dimension read_dimension_body
-behind_head blocks parts ts rest line name head = ap (λ r. bound (inside_result (with_given (seen blocks parts)) (λ fault. fault) r) (λ _. read_dimension_body)) head
+behind_head blocks parts ts rest place name head = ap (λ r. bound (inside_result (with_given (seen blocks parts)) (λ fault. fault) r) (λ _. read_dimension_body)) head
 
 body_stop : (s : Seen) (stop : Stop Refusal) (left : List Lexeme) (r : Read Lexeme Progress Refusal (Unit {0})) → GivesText (Err stop) left r → Stops (stop_of stop) (inside_result (with_block s) of_block r)
 body_stop s stops.Memory left r e = tt
 body_stop s (stops.Unexpected n) left r e = ap (inside_result (with_block s) of_block) e
 body_stop s (stops.Refused refusal) left r e = ap (inside_result (with_block s) of_block) e
 
-pub body_stops : (blocks : List Progress) (parts : Parts) (ts rest left : List Lexeme) (line : ℕ) (name : List ℕ) (stop : Stop Refusal) → read_dimension_head (at parts Nothing) ts ≡ Ok (tt, at parts (DimensionBody line name), rest) → GivesText (Err stop) left (read_body (opened line name) rest) → Stops (stop_of stop) (read_dimension (seen blocks parts) ts)
-body_stops blocks parts ts rest left line name stop head e = subst (Stops (stop_of stop)) (sym (behind_head blocks parts ts rest line name head)) (body_stop (with_given (seen blocks parts) (at parts (DimensionBody line name))) stop left (read_body (opened line name) rest) e)
+pub body_stops : (blocks : List Progress) (parts : Parts) (ts rest left : List Lexeme) (place : Position) (name : List ℕ) (stop : Stop Refusal) → read_dimension_head (at parts Nothing) ts ≡ Ok (tt, at parts (DimensionBody place name), rest) → GivesText (Err stop) left (read_body (opened place name) rest) → Stops (stop_of stop) (read_dimension (seen blocks parts) ts)
+body_stops blocks parts ts rest left place name stop head e = subst (Stops (stop_of stop)) (sym (behind_head blocks parts ts rest place name head)) (body_stop (with_given (seen blocks parts) (at parts (DimensionBody place name))) stop left (read_body (opened place name) rest) e)
 
-pub block_read : (blocks : List Progress) (parts new : Parts) (ts rest left : List Lexeme) (line : ℕ) (name : List ℕ) (block : Progress) → read_dimension_head (at parts Nothing) ts ≡ Ok (tt, at parts (DimensionBody line name), rest) → read_body (opened line name) rest ≡ Ok (tt, block, left) → new ≡ record parts { names = parts.names ++ name ∷ [] } → read_dimension (seen blocks parts) ts ≡ Ok (tt, seen (blocks ++ block ∷ []) new, left)
-block_read blocks parts new ts rest left line name block head body is = behind_head blocks parts ts rest line name head ∙ ap (inside_result (with_block (with_given (seen blocks parts) (at parts (DimensionBody line name)))) of_block) body ∙ ap (λ x. Ok (tt, seen (blocks ++ block ∷ []) x, left)) (sym is)
+pub block_read : (blocks : List Progress) (parts new : Parts) (ts rest left : List Lexeme) (place : Position) (name : List ℕ) (block : Progress) → read_dimension_head (at parts Nothing) ts ≡ Ok (tt, at parts (DimensionBody place name), rest) → read_body (opened place name) rest ≡ Ok (tt, block, left) → new ≡ record parts { names = parts.names ++ name ∷ [] } → read_dimension (seen blocks parts) ts ≡ Ok (tt, seen (blocks ++ block ∷ []) new, left)
+block_read blocks parts new ts rest left place name block head body is = behind_head blocks parts ts rest place name head ∙ ap (inside_result (with_block (with_given (seen blocks parts) (at parts (DimensionBody place name)))) of_block) body ∙ ap (λ x. Ok (tt, seen (blocks ++ block ∷ []) x, left)) (sym is)
 
 -- The dimensions of a cube.
 

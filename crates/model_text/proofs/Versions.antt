@@ -46,7 +46,7 @@ auto_into : (totals : Bool) → Into (auto totals) (auto true)
 auto_into totals = into_both same (λ _. into_both (into_either into_only same) (λ kinds. same))
 
 order_into : (totals : Bool) → Into (order totals) (order true)
-order_into totals = into_either (into_both same (λ line. into_both (into_either (auto_into totals) (list_into totals)) (λ list. same))) same
+order_into totals = into_either (into_both same (λ place. into_both (into_either (auto_into totals) (list_into totals)) (λ list. same))) same
 
 pub cube_end_into : (totals : Bool) → Into (cube_end totals) (cube_end true)
 cube_end_into totals = into_both same (λ _. into_both same (λ _. into_both same (λ r. into_both (order_into totals) (λ o. same))))

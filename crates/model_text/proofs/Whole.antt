@@ -7,6 +7,7 @@ use Rattle.cube_lex.specs.Lexed.{Lexed}
 use Rattle.cube_lex.specs.Lexeme.{Lexeme}
 use Rattle.cube_lex.specs.Reading.{IsReading}
 use Rattle.cube_lex.specs.declared.fault.LexFault.{LexFault}
+use Rattle.cube_lex.specs.declared.position.Position.{Position}
 use Rattle.grammar.specs.Reading.{Reader, bound, both_of, inside_result}
 use Rattle.grammar.specs.Whole.{IsWholeText, IsWholeRefused, answer_of_text}
 use Rattle.grammar.specs.declared.stop.Stop.{Stop}
@@ -80,53 +81,53 @@ abbrev HasCause : Result Given ModelTextFault → Type 0
 HasCause (Ok g) = Unit {0}
 HasCause (Err fault) = IsCause fault.cause
 
-unless_cause : (b : Bool) (line : ℕ) (cause : ModelTextCause) (parts : Parts) (current : Current) → IsCause cause → HasCause (unless b line cause parts current)
-unless_cause true line cause parts current is = is
-unless_cause false line cause parts current is = tt
+unless_cause : (b : Bool) (place : Position) (cause : ModelTextCause) (parts : Parts) (current : Current) → IsCause cause → HasCause (unless b place cause parts current)
+unless_cause true place cause parts current is = is
+unless_cause false place cause parts current is = tt
 
-shown_cause : (parts : Parts) (line : ℕ) (shown : List ℕ) (current : Current) → HasCause (with_text parts line shown current)
-shown_cause parts line shown (DimensionDue l) = unless_cause (has_dimension parts shown) line causes.Duplicate parts (DimensionOpen l shown) tt
-shown_cause parts line shown (CubeDue l) = unless_cause (has_cube parts shown) line causes.Duplicate parts (CubeOpen l shown []) tt
-shown_cause parts line shown (ScriptDue l) = unless_cause (has_script parts shown) line causes.Duplicate parts (ScriptOpen l shown) tt
-shown_cause parts line shown (ScriptOpen l n) = tt
-shown_cause parts line shown Nothing = tt
-shown_cause parts line shown (DimensionOpen l n) = tt
-shown_cause parts line shown (DimensionBody l n) = tt
-shown_cause parts line shown (CubeOpen l n dims) = tt
-shown_cause parts line shown (ScriptWhole l n file) = tt
+shown_cause : (parts : Parts) (place : Position) (shown : List ℕ) (current : Current) → HasCause (with_text parts place shown current)
+shown_cause parts place shown (DimensionDue l) = unless_cause (has_dimension parts shown) place causes.Duplicate parts (DimensionOpen l shown) tt
+shown_cause parts place shown (CubeDue l) = unless_cause (has_cube parts shown) place causes.Duplicate parts (CubeOpen l shown []) tt
+shown_cause parts place shown (ScriptDue l) = unless_cause (has_script parts shown) place causes.Duplicate parts (ScriptOpen l shown) tt
+shown_cause parts place shown (ScriptOpen l n) = tt
+shown_cause parts place shown Nothing = tt
+shown_cause parts place shown (DimensionOpen l n) = tt
+shown_cause parts place shown (DimensionBody l n) = tt
+shown_cause parts place shown (CubeOpen l n dims) = tt
+shown_cause parts place shown (ScriptWhole l n file) = tt
 
-dimension_cause : (parts : Parts) (line : ℕ) (o : Option ℕ) (current : Current) → HasCause (with_dimension parts line o current)
-dimension_cause parts line None (CubeOpen l n dims) = tt
-dimension_cause parts line (Some k) (CubeOpen l n dims) = unless_cause (list_any (nat_eq k) dims) line causes.Duplicate parts _ tt
-dimension_cause parts line None Nothing = tt
-dimension_cause parts line (Some k) Nothing = tt
-dimension_cause parts line None (DimensionDue l) = tt
-dimension_cause parts line (Some k) (DimensionDue l) = tt
-dimension_cause parts line None (CubeDue l) = tt
-dimension_cause parts line (Some k) (CubeDue l) = tt
-dimension_cause parts line None (ScriptDue l) = tt
-dimension_cause parts line (Some k) (ScriptDue l) = tt
-dimension_cause parts line None (DimensionOpen l n) = tt
-dimension_cause parts line (Some k) (DimensionOpen l n) = tt
-dimension_cause parts line None (DimensionBody l n) = tt
-dimension_cause parts line (Some k) (DimensionBody l n) = tt
-dimension_cause parts line None (ScriptOpen l n) = tt
-dimension_cause parts line (Some k) (ScriptOpen l n) = tt
-dimension_cause parts line None (ScriptWhole l n file) = tt
-dimension_cause parts line (Some k) (ScriptWhole l n file) = tt
+dimension_cause : (parts : Parts) (place : Position) (o : Option ℕ) (current : Current) → HasCause (with_dimension parts place o current)
+dimension_cause parts place None (CubeOpen l n dims) = tt
+dimension_cause parts place (Some k) (CubeOpen l n dims) = unless_cause (list_any (nat_eq k) dims) place causes.Duplicate parts _ tt
+dimension_cause parts place None Nothing = tt
+dimension_cause parts place (Some k) Nothing = tt
+dimension_cause parts place None (DimensionDue l) = tt
+dimension_cause parts place (Some k) (DimensionDue l) = tt
+dimension_cause parts place None (CubeDue l) = tt
+dimension_cause parts place (Some k) (CubeDue l) = tt
+dimension_cause parts place None (ScriptDue l) = tt
+dimension_cause parts place (Some k) (ScriptDue l) = tt
+dimension_cause parts place None (DimensionOpen l n) = tt
+dimension_cause parts place (Some k) (DimensionOpen l n) = tt
+dimension_cause parts place None (DimensionBody l n) = tt
+dimension_cause parts place (Some k) (DimensionBody l n) = tt
+dimension_cause parts place None (ScriptOpen l n) = tt
+dimension_cause parts place (Some k) (ScriptOpen l n) = tt
+dimension_cause parts place None (ScriptWhole l n file) = tt
+dimension_cause parts place (Some k) (ScriptWhole l n file) = tt
 
-version_cause : (g : Given) (line number : ℕ) (b : Bool) → HasCause (if b then Ok (at (record g.parts { version = number }) g.current) else refused line causes.WrongVersion)
-version_cause g line number true = tt
-version_cause g line number false = tt
+version_cause : (g : Given) (place : Position) (number : ℕ) (b : Bool) → HasCause (if b then Ok (at (record g.parts { version = number }) g.current) else refused place causes.WrongVersion)
+version_cause g place number true = tt
+version_cause g place number false = tt
 
 gathered_cause : (g : Given) (x : Piece) → HasCause (gathered g x)
-gathered_cause g (Version line number) = version_cause g line number (is_version number)
+gathered_cause g (Version place number) = version_cause g place number (is_version number)
 gathered_cause g Closing = tt
-gathered_cause g (DimensionWord line) = unless_cause (dimensions_are_full g.parts) line causes.TooMany g.parts (DimensionDue line) tt
-gathered_cause g (CubeWord line) = unless_cause (cubes_are_full g.parts) line causes.TooMany g.parts (CubeDue line) tt
-gathered_cause g (ScriptWord line) = unless_cause (scripts_are_full g.parts) line causes.TooMany g.parts (ScriptDue line) tt
-gathered_cause g (QuotedText line shown) = shown_cause g.parts line shown g.current
-gathered_cause g (CubeDimension line shown) = dimension_cause g.parts line (place_of g.parts.names shown) g.current
+gathered_cause g (DimensionWord place) = unless_cause (dimensions_are_full g.parts) place causes.TooMany g.parts (DimensionDue place) tt
+gathered_cause g (CubeWord place) = unless_cause (cubes_are_full g.parts) place causes.TooMany g.parts (CubeDue place) tt
+gathered_cause g (ScriptWord place) = unless_cause (scripts_are_full g.parts) place causes.TooMany g.parts (ScriptDue place) tt
+gathered_cause g (QuotedText place shown) = shown_cause g.parts place shown g.current
+gathered_cause g (CubeDimension place shown) = dimension_cause g.parts place (place_of g.parts.names shown) g.current
 gathered_cause g (CubeEnd rules order) = tt
 
 added_cause : (s : Seen) (r : Result Given ModelTextFault) (fault : ModelTextFault) → HasCause r → added s r ≡ Err fault → IsCause fault.cause
@@ -137,21 +138,21 @@ refused_cause : (s : Seen) (u : List Lexeme) (fault : ModelTextFault) → watchi
 refused_cause s u fault (inl (x, is, e)) = added_cause s (gathered s.given x) fault (gathered_cause s.given x) e
 refused_cause s u fault (inr body) = subst (λ (x : ModelTextFault). IsCause x.cause) (sym body.is) tt
 
-fault_by : (bytes : List ℕ) (line : ℕ) (cause : ModelTextCause) → IsCause cause → IsWholeRefused model watching nothing_seen bytes (record { line = line; cause = cause }) → IsFault bytes line cause
-fault_by bytes line causes.Syntax is h = absurd is
-fault_by bytes line causes.Memory is h = absurd is
-fault_by bytes line causes.WrongVersion is h = h
-fault_by bytes line causes.Duplicate is h = h
-fault_by bytes line causes.UnknownName is h = h
-fault_by bytes line causes.TooMany is h = h
-fault_by bytes line (causes.Dim fault) is h = h
+fault_by : (bytes : List ℕ) (place : Position) (cause : ModelTextCause) → IsCause cause → IsWholeRefused model watching nothing_seen bytes (record { at = place; cause = cause }) → IsFault bytes place cause
+fault_by bytes place causes.Syntax is h = absurd is
+fault_by bytes place causes.Memory is h = absurd is
+fault_by bytes place causes.WrongVersion is h = h
+fault_by bytes place causes.Duplicate is h = h
+fault_by bytes place causes.UnknownName is h = h
+fault_by bytes place causes.TooMany is h = h
+fault_by bytes place (causes.Dim fault) is h = h
 
 -- The whole text.
 
 -- what the parser has, and the text behind it
 abbrev pub Told : {X : Type 0} → (X → List Text) → (X → Parts) → List ℕ → Result X (TextFault ModelTextFault) → Type 0
 Told dims parts bytes (Ok x) = (blocks : List Progress) × IsWholeText model watching nothing_seen bytes tt (seen blocks (parts x)) × AllZip IsBuilt (dims x) blocks
-Told dims parts bytes (Err fault) = IsFault bytes (fault_from fault).line (fault_from fault).cause
+Told dims parts bytes (Err fault) = IsFault bytes (fault_from fault).at (fault_from fault).cause
 
 ends : Ends []
 ends = record { dimension = refl; cube = refl; script = refl }
@@ -165,7 +166,7 @@ told dims parts bytes lexed fault (Err stops.Memory) left reading e = refl
 told dims parts bytes lexed fault (Err (stops.Unexpected n)) left reading e = whole_stuck_told model_exact ends nothing_seen bytes lexed fault n reading e
 told dims parts bytes lexed fault (Err (stops.Refused f)) left reading e =
     let is : IsWholeRefused model watching nothing_seen bytes f = whole_refused_told model_exact nothing_seen bytes lexed fault f reading e in
-    fault_by bytes f.line f.cause (refused_cause is.refused.refused.state is.refused.refused.piece f is.refused.refused.refused) is
+    fault_by bytes f.at f.cause (refused_cause is.refused.refused.state is.refused.refused.piece f is.refused.refused.refused) is
 
 -- what a text is that was read
 pub contents_of : (bytes : List ℕ) (dims : List Text) (blocks : List Progress) (parts : Parts) → IsWholeText model watching nothing_seen bytes tt (seen blocks parts) → AllZip IsBuilt dims blocks → IsModelText bytes (record { version = parts.version; dims = dims; cubes = parts.cubes; scripts = parts.scripts })
@@ -218,5 +219,5 @@ answer_ok {X = X} dims parts bytes lexed fault read left x reading given known n
     told_contents bytes (dims x) (parts x) (subst (Told dims parts bytes) (sym e) (told dims parts bytes lexed fault read left reading given)) (subst (λ r. IfOk r (λ y. IsTrue (is_version (parts y).version))) same known) (subst (λ r. IfOk r (λ y. (parts y).names ≡ dimension_names (dims y))) same names) kept
 
 -- a text was refused
-pub answer_err : {X : Type 0} (dims : X → List Text) (parts : X → Parts) (bytes : List ℕ) (lexed : Lexed) (fault : Option LexFault) (read : Result X (Stop ModelTextFault)) (left : List Lexeme) (f : TextFault ModelTextFault) → IsReading bytes lexed fault → GivesBlocks dims parts read left (read_model nothing_seen lexed.lexemes) → ◌≡◌ {A = Result X (TextFault ModelTextFault)} (Err f) (answer_of_text lexed fault read left) → IsFault bytes (fault_from f).line (fault_from f).cause
+pub answer_err : {X : Type 0} (dims : X → List Text) (parts : X → Parts) (bytes : List ℕ) (lexed : Lexed) (fault : Option LexFault) (read : Result X (Stop ModelTextFault)) (left : List Lexeme) (f : TextFault ModelTextFault) → IsReading bytes lexed fault → GivesBlocks dims parts read left (read_model nothing_seen lexed.lexemes) → ◌≡◌ {A = Result X (TextFault ModelTextFault)} (Err f) (answer_of_text lexed fault read left) → IsFault bytes (fault_from f).at (fault_from f).cause
 answer_err dims parts bytes lexed fault read left f reading given e = subst (Told dims parts bytes) (sym e) (told dims parts bytes lexed fault read left reading given)

@@ -1,6 +1,8 @@
 -- What is answered of the bytes of a model text: what it says, or the first fault.
 use Rattle.std.specs.Prelude.{◌≡◌, ℕ, List, Result, Ok, Err}
 use Rattle.std.specs.List.{AllZip}
+use Rattle.cube_lex.specs.Positions.{nowhere}
+use Rattle.cube_lex.specs.declared.position.Position.{Position}
 use Rattle.grammar.specs.Whole.{IsWholeText, IsWholeSyntax, IsWholeRefused}
 use Rattle.dim_text.specs.Progress.{IsBuilt}
 use Rattle.model_text.specs.Contents.{Contents}
@@ -23,12 +25,12 @@ pub record IsModelText (bytes : List ℕ) (contents : Contents) : Type 0 where
   pub text : IsWholeText model watching nothing_seen bytes tt seen
   pub gathered : IsGathered contents seen
 
--- this is the first fault, on this line
-abbrev pub IsFault : List ℕ → ℕ → ModelTextCause → Type 0
-IsFault bytes line causes.Syntax = IsWholeSyntax model watching nothing_seen bytes line
-IsFault bytes line causes.Memory = line ≡ 0
-IsFault bytes line cause = IsWholeRefused model watching nothing_seen bytes (record { line = line; cause = cause })
+-- this is the first fault, at this place
+abbrev pub IsFault : List ℕ → Position → ModelTextCause → Type 0
+IsFault bytes place causes.Syntax = IsWholeSyntax model watching nothing_seen bytes place
+IsFault bytes place causes.Memory = place ≡ nowhere
+IsFault bytes place cause = IsWholeRefused model watching nothing_seen bytes (record { at = place; cause = cause })
 
 abbrev pub Answers : List ℕ → Result Contents ModelTextFault → Type 0
 Answers bytes (Ok contents) = IsModelText bytes contents
-Answers bytes (Err fault) = IsFault bytes fault.line fault.cause
+Answers bytes (Err fault) = IsFault bytes fault.at fault.cause

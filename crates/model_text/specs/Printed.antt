@@ -9,7 +9,7 @@ use Rattle.model_text.specs.Spelled.{contents_spelled}
 use Rattle.model_text.specs.declared.parts.CubeText.{CubeText}
 use Rattle.model_text.specs.declared.parts.ScriptText.{ScriptText}
 
--- two cubes are equal, but for their lines
+-- two cubes are equal, but for their places
 pub record IsSameCube (x y : CubeText) : Type 0 where
   pub name : y.name ≡ x.name
   pub dims : y.dims ≡ x.dims
@@ -27,7 +27,7 @@ pub record AreSameContents (x y : Contents) : Type 0 where
   pub cubes : AllZip IsSameCube x.cubes y.cubes
   pub scripts : AllZip IsSameScript x.scripts y.scripts
 
--- where the bytes aren't too many for a text, they are read as a model text with equal contents, but for lines
+-- where the bytes aren't too many for a text, they are read as a model text with equal contents, but for places
 abbrev pub IsTextOf : Contents → List ℕ → Type 0
 IsTextOf contents bytes =
     length bytes ≤ most_text_bytes → (again : Contents) × IsModelText bytes again × AreSameContents contents again

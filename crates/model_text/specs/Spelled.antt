@@ -1,10 +1,11 @@
--- How a model text is written, token by token. Lines aren't written.
+-- How a model text is written, token by token. Places aren't written.
 use Rattle.std.specs.Prelude.{ℕ, Bool, true, false, List, [], ◌∷◌, ◌++◌, get_or, Option, Some, None, codes}
 use Rattle.std.specs.List.{flat_map}
 use Rattle.cube_lex.specs.Written.{Spelling}
 use Rattle.dim_core.specs.Written.{written}
 use Rattle.dim_text.specs.Progress.{Text}
 use Rattle.cube_lex.specs.Written.{word_token, sign_token, text_token}
+use Rattle.cube_lex.specs.declared.position.Position.{Position}
 use Rattle.dim_text.specs.Spelled.{whole_token, draft_spelled}
 use Rattle.model_text.specs.Contents.{Contents, dimension_names}
 use Rattle.model_text.specs.declared.order.OrderLine.{OrderLine}
@@ -39,7 +40,7 @@ cube_dimensions_spelled names [] = []
 cube_dimensions_spelled names (first ∷ rest) =
     dimension_spelled (codes "(") (get_or names first []) ++ flat_map (next_dimension_spelled names) rest
 
-abbrev pub rules_spelled : Option (ℕ × List ℕ) → List Spelling
+abbrev pub rules_spelled : Option (Position × List ℕ) → List Spelling
 rules_spelled None = []
 rules_spelled (Some rules) = word_token (codes "RULES") ∷ text_token rules.1 ∷ sign_token (codes ";") ∷ []
 
@@ -82,7 +83,7 @@ abbrev pub positions_spelled : List OrderWord → List Spelling
 positions_spelled [] = []
 positions_spelled (first ∷ rest) = position_spelled first ++ flat_map next_position_spelled rest
 
-abbrev pub order_spelled : Option (ℕ × OrderLine) → List Spelling
+abbrev pub order_spelled : Option (Position × OrderLine) → List Spelling
 order_spelled None = []
 order_spelled (Some order) =
     word_token (codes "ORDER") ∷ (positions_spelled order.1.words ++ sign_token (codes ";") ∷ [])
@@ -90,7 +91,7 @@ order_spelled (Some order) =
 abbrev pub ending_spelled : List Spelling
 ending_spelled = word_token (codes "END") ∷ sign_token (codes ";") ∷ []
 
-abbrev pub cube_end_spelled : Option (ℕ × List ℕ) → Option (ℕ × OrderLine) → List Spelling
+abbrev pub cube_end_spelled : Option (Position × List ℕ) → Option (Position × OrderLine) → List Spelling
 cube_end_spelled rules order =
     sign_token (codes ")") ∷ sign_token (codes ";") ∷ (rules_spelled rules ++ (order_spelled order ++ ending_spelled))
 

@@ -1,6 +1,7 @@
 -- The grammar of a model text. Its pieces are those by which it is watched: each ends where something may be refused.
 use Rattle.std.specs.Prelude.{ℕ, Bool, true, false, ◌==◌, IsTrue, List, [], ◌∷◌, Option, Some, None, codes}
 use Rattle.cube_lex.specs.Lexeme.{Lexeme}
+use Rattle.cube_lex.specs.declared.position.Position.{Position}
 use Rattle.grammar.specs.Grammar.{Grammar, done, one, either, many, ◌>>=◌, ◌>>◌}
 use Rattle.grammar.specs.Lists.{listed}
 use Rattle.grammar.specs.Tokens.{sign, word, whole, name, text, file, located}
@@ -9,20 +10,20 @@ use Rattle.model_text.specs.declared.order.OrderWord.{OrderWord}
 use Rattle.model_text.specs.declared.order.OrderWord.TheVariants as words
 
 pub data Piece : Type 0 where
-  -- the version's line and number
-  Version : ℕ → ℕ → Piece
+  -- the version's place and number
+  Version : Position → ℕ → Piece
   -- a `;`
   Closing : Piece
-  -- the line of the word
-  DimensionWord : ℕ → Piece
-  CubeWord : ℕ → Piece
-  ScriptWord : ℕ → Piece
-  -- a quoted text with its line: the name of a dimension, a cube or a script, or the file of a script
-  QuotedText : ℕ → List ℕ → Piece
-  -- the name of one more dimension of a cube, with its line
-  CubeDimension : ℕ → List ℕ → Piece
-  -- the rest of a cube: its rule file and the words of its order line, each with the line of its first word
-  CubeEnd : Option (ℕ × List ℕ) → Option (ℕ × List OrderWord) → Piece
+  -- the place of the word
+  DimensionWord : Position → Piece
+  CubeWord : Position → Piece
+  ScriptWord : Position → Piece
+  -- a quoted text with its place: the name of a dimension, a cube or a script, or the file of a script
+  QuotedText : Position → List ℕ → Piece
+  -- the name of one more dimension of a cube, with its place
+  CubeDimension : Position → List ℕ → Piece
+  -- the rest of a cube: its rule file and the words of its order line, each with the place of its first word
+  CubeEnd : Option (Position × List ℕ) → Option (Position × List OrderWord) → Piece
 
 -- "MODEL" whole
 abbrev pub version : Grammar Lexeme Piece
@@ -40,20 +41,20 @@ closing = do
 -- "DIM"
 abbrev pub dimension_word : Grammar Lexeme Piece
 dimension_word = do
-  line ← one (word (codes "DIM"))
-  done (DimensionWord line)
+  place ← one (word (codes "DIM"))
+  done (DimensionWord place)
 
 -- "CUBE"
 abbrev pub cube_word : Grammar Lexeme Piece
 cube_word = do
-  line ← one (word (codes "CUBE"))
-  done (CubeWord line)
+  place ← one (word (codes "CUBE"))
+  done (CubeWord place)
 
 -- "SCRIPT"
 abbrev pub script_word : Grammar Lexeme Piece
 script_word = do
-  line ← one (word (codes "SCRIPT"))
-  done (ScriptWord line)
+  place ← one (word (codes "SCRIPT"))
+  done (ScriptWord place)
 
 -- name
 abbrev pub naming : Grammar Lexeme Piece
@@ -77,15 +78,15 @@ abbrev pub next_dimension : Grammar Lexeme Piece
 next_dimension = dimension_behind (codes ",")
 
 -- "RULES" file ";"
-abbrev pub rule_file : Grammar Lexeme (Option (ℕ × List ℕ))
+abbrev pub rule_file : Grammar Lexeme (Option (Position × List ℕ))
 rule_file = do
-  line ← one (word (codes "RULES"))
+  place ← one (word (codes "RULES"))
   bytes ← one file
   one (sign (codes ";"))
-  done (Some (line, bytes))
+  done (Some (place, bytes))
 
 -- [ "RULES" file ";" ]
-abbrev pub rules : Grammar Lexeme (Option (ℕ × List ℕ))
+abbrev pub rules : Grammar Lexeme (Option (Position × List ℕ))
 rules = either rule_file (done None)
 
 -- name whole
@@ -195,15 +196,15 @@ abbrev pub order_words : Bool → Grammar Lexeme (List OrderWord)
 order_words totals = either (auto totals) (position_list totals)
 
 -- "ORDER" ( "AUTO" [ "TOTALS" ] [ name ] | position { "," position } ) ";"
-abbrev pub order_line : Bool → Grammar Lexeme (Option (ℕ × List OrderWord))
+abbrev pub order_line : Bool → Grammar Lexeme (Option (Position × List OrderWord))
 order_line totals = do
-  line ← one (word (codes "ORDER"))
+  place ← one (word (codes "ORDER"))
   list ← order_words totals
   one (sign (codes ";"))
-  done (Some (line, list))
+  done (Some (place, list))
 
 -- [ "ORDER" ( "AUTO" [ "TOTALS" ] [ name ] | position { "," position } ) ";" ]
-abbrev pub order : Bool → Grammar Lexeme (Option (ℕ × List OrderWord))
+abbrev pub order : Bool → Grammar Lexeme (Option (Position × List OrderWord))
 order totals = either (order_line totals) (done None)
 
 -- ")" ";" [ "RULES" file ";" ] [ "ORDER" ( "AUTO" [ "TOTALS" ] [ name ] | position { "," position } ) ";" ] "END" ";"
@@ -266,7 +267,7 @@ script = do
 
 -- the number of the version
 abbrev pub number_of : Piece → ℕ
-number_of (Version line number) = number
+number_of (Version place number) = number
 number_of other = 0
 
 -- "MODEL" whole

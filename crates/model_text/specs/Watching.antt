@@ -35,11 +35,11 @@ add s p = added s (gathered s.given p)
 
 -- the body of a dimension begins with its head built, where the head has been read
 abbrev pub head_of : Current → Option Progress
-head_of (DimensionBody line shown) = Some (opened line shown)
+head_of (DimensionBody place shown) = Some (opened place shown)
 head_of other = None
 
 abbrev pub with_name_of : Parts → Current → Parts
-with_name_of parts (DimensionBody line shown) = with_name parts shown
+with_name_of parts (DimensionBody place shown) = with_name parts shown
 with_name_of parts other = parts
 
 -- behind the block of a dimension
@@ -50,7 +50,7 @@ with_block s block = record {
 }
 
 abbrev pub of_block : Refusal → ModelTextFault
-of_block refusal = record { line = refusal.line; cause = causes.Dim refusal.fault }
+of_block refusal = record { at = refusal.at; cause = causes.Dim refusal.fault }
 
 -- a whole body, whose statements build this
 pub record BodyPasses (s : Seen) (u : List Lexeme) (t : Seen) : Type 0 where

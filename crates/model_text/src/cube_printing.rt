@@ -10,7 +10,7 @@ ghost use Rattle.model_text.specs.Writable.{IsNameText, IsFileText, IsWritableCu
 use crate::order::OrderLine;
 use crate::order_printing::write_order;
 use crate::parts::CubeText;
-use cube_lex::{Piece, write_line, write_pieces};
+use cube_lex::{Piece, Position, write_line, write_pieces};
 use dim_name::Name;
 use dim_text::DimText;
 use lists::ListOf;
@@ -93,7 +93,7 @@ fn write_head(alloc: Global, out: &mut Vec<u8>, name: &Name) -> Result<(), Alloc
 fn write_rules(
     alloc: Global,
     out: &mut Vec<u8>,
-    rules: &Option<(u32, ListOf<u8>)>,
+    rules: &Option<(Position, ListOf<u8>)>,
 ) -> Result<(), AllocError>
     requires { IfSome rules.now (λ r. IsFileText r.1) }
     ensures { OnOk result (Writes out.old.items out.new.items (rules_spelled rules.now)) }
@@ -115,8 +115,8 @@ fn write_rules(
 fn write_end(
     alloc: Global,
     out: &mut Vec<u8>,
-    rules: &Option<(u32, ListOf<u8>)>,
-    order: &Option<(u32, OrderLine)>,
+    rules: &Option<(Position, ListOf<u8>)>,
+    order: &Option<(Position, OrderLine)>,
 ) -> Result<(), AllocError>
     requires rules { IfSome rules.now (λ r. IsFileText r.1) }
     requires order { IfSome order.now (λ o. IsWritableOrder o.1.words) }

@@ -13,26 +13,27 @@ use crate::order_line::{cube_end_at, order_of};
 use crate::partial::PartialModel;
 use crate::parts::CubeText;
 use crate::pieces::dimension_behind;
-use crate::section::{Section, line_at, new_name_at};
+use crate::section::{Section, new_name_at, position_at};
+use cube_lex::Position;
 use dim_name::Name;
 use grammar::{Cursor, Stop, Unwatched, sign_comes};
 use lists::ListOf;
 use std::alloc::{AllocError, Global};
 
-// Reads the head of a cube: its line and its name.
+// Reads the head of a cube: its place and its name.
 #[tactic(auto, unfolding(crate::specs::Readers::Reading::read_cube_head))]
 fn head_at(
     alloc: Global,
     cursor: &mut Cursor<'_, Unwatched>,
     partial: &PartialModel,
-) -> Result<(u32, Name), Stop<ModelTextFault>>
+) -> Result<(Position, Name), Stop<ModelTextFault>>
     ensures read { LeadsTo partial.now Nothing reading.read_cube_head (λ head. CubeOpen head.0 head.1 [])
         cursor.old result cursor.new }
     ensures writable { All IsWellFormed (ahead cursor.old) → IfOk result (λ head. IsNameText head.1) }
 {
-    let line = line_at(cursor, partial, Section::Cube)?;
-    let name = new_name_at(alloc, cursor, partial, Section::Cube, line)?;
-    Ok((line, name))
+    let position = position_at(cursor, partial, Section::Cube)?;
+    let name = new_name_at(alloc, cursor, partial, Section::Cube, position)?;
+    Ok((position, name))
 }
 
 // Whether the number is one of these.
@@ -51,20 +52,20 @@ fn alone(alloc: Global, number: u32) -> Result<Vec<u32>, AllocError>
     Ok(numbers)
 }
 
-// The number of the dimension of this name, which a cube with these dimensions so far names on this line.
+// The number of the dimension of this name, which a cube with these dimensions so far names at this place.
 fn number_of(
     partial: &PartialModel,
-    line: u32,
+    position: Position,
     name: &Name,
     dims: &[u32],
 ) -> Result<u32, Stop<ModelTextFault>>
-    ensures { GathersDimension partial.now dims.now line name.now result }
+    ensures { GathersDimension partial.now dims.now position name.now result }
 {
     let Some(number) = partial.dimension(name) else {
-        return Err(refused(line, ModelTextCause::UnknownName));
+        return Err(refused(position, ModelTextCause::UnknownName));
     };
     if is_among(dims, number) {
-        return Err(refused(line, ModelTextCause::Duplicate));
+        return Err(refused(position, ModelTextCause::Duplicate));
     }
     Ok(number)
 }
@@ -80,8 +81,8 @@ fn dimension_at(
     ensures read { ReadsDimension partial.now dims.now before.now cursor.old result cursor.new }
     ensures shorter { OnOk result (length cursor.new.tokens < length cursor.old.tokens) }
 {
-    let (line, name) = dimension_behind(alloc, cursor, before)?;
-    number_of(partial, line, &name, dims)
+    let (position, name) = dimension_behind(alloc, cursor, before)?;
+    number_of(partial, position, &name, dims)
 }
 
 // Reads the dimensions of a cube behind these.
@@ -92,9 +93,9 @@ fn further_dimensions(
     partial: &PartialModel,
     mut dims: Vec<u32>,
 ) -> Result<Vec<u32>, Stop<ModelTextFault>>
-    ensures read { (word_line : ℕ) (cube : List ℕ)
-        → LeadsTo partial.now (CubeOpen word_line cube dims.items) reading.gather_further_dimensions
-        (λ all. CubeOpen word_line cube all.items) cursor.old result cursor.new }
+    ensures read { (word_place : Position) (cube : List ℕ)
+        → LeadsTo partial.now (CubeOpen word_place cube dims.items) reading.gather_further_dimensions
+        (λ all. CubeOpen word_place cube all.items) cursor.old result cursor.new }
     ensures more { IfOk result (λ all. length dims.items ≤ length all.items) }
 {
     'dimension: while sign_comes(cursor, b",") {
@@ -111,9 +112,9 @@ fn dimensions_at(
     cursor: &mut Cursor<'_, Unwatched>,
     partial: &PartialModel,
 ) -> Result<Vec<u32>, Stop<ModelTextFault>>
-    ensures read { (word_line : ℕ) (cube : List ℕ)
-        → LeadsTo partial.now (CubeOpen word_line cube []) reading.read_cube_dimensions
-        (λ dims. CubeOpen word_line cube dims.items) cursor.old result cursor.new }
+    ensures read { (word_place : Position) (cube : List ℕ)
+        → LeadsTo partial.now (CubeOpen word_place cube []) reading.read_cube_dimensions
+        (λ dims. CubeOpen word_place cube dims.items) cursor.old result cursor.new }
     ensures some { IfOk result (λ dims. 0 < length dims.items) }
 {
     let first = dimension_at(alloc, cursor, partial, &[], b"(")?;
@@ -133,13 +134,13 @@ pub fn cube_at(
         cursor.old result cursor.new }
     ensures same { OnOk result (AreSame partial.old partial.new) }
 {
-    let (line, name) = head_at(alloc, cursor, partial)?;
+    let (position, name) = head_at(alloc, cursor, partial)?;
     let dims = dimensions_at(alloc, cursor, partial)?;
     let (rules, order) = cube_end_at(alloc, cursor, partial.has_totals())?;
     let dims = ListOf::new(dims);
     let order = order_of(partial.version(), order);
     partial.add_cube(CubeText {
-        line,
+        at: position,
         name,
         dims,
         rules,

@@ -10,29 +10,30 @@ ghost use Rattle.model_text.specs.Readers.Views.{LeadsTo, ReadsBlock, GivesBlock
 use crate::fault::{ModelTextCause, ModelTextFault, refused};
 use crate::partial::PartialModel;
 use crate::pieces::closing_at;
-use crate::section::{Section, line_at, new_name_at};
+use crate::section::{Section, new_name_at, position_at};
+use cube_lex::Position;
 use dim_name::Name;
 use dim_text::{DimText, Refusal, body_at};
 use grammar::{Cursor, Stop, Unwatched, word_comes};
 use lists::TableKeys;
 use std::alloc::{AllocError, Global};
 
-// Reads the head of a dimension: its line and its name.
+// Reads the head of a dimension: its place and its name.
 #[tactic(auto, unfolding(crate::specs::Readers::Reading::read_dimension_head))]
 fn head_at(
     alloc: Global,
     cursor: &mut Cursor<'_, Unwatched>,
     partial: &PartialModel,
-) -> Result<(u32, Name), Stop<ModelTextFault>>
+) -> Result<(Position, Name), Stop<ModelTextFault>>
     ensures read { LeadsTo partial.now Nothing reading.read_dimension_head (λ head. DimensionBody head.0 head.1)
         cursor.old result cursor.new }
     ensures room { OnOk result (length partial.now.names < most_model_dimensions) }
     ensures quotable { All IsWellFormed (ahead cursor.old) → IfOk result (λ head. IsQuotable head.1) }
 {
-    let line = line_at(cursor, partial, Section::Dimension)?;
-    let name = new_name_at(alloc, cursor, partial, Section::Dimension, line)?;
+    let position = position_at(cursor, partial, Section::Dimension)?;
+    let name = new_name_at(alloc, cursor, partial, Section::Dimension, position)?;
     closing_at(cursor)?;
-    Ok((line, name))
+    Ok((position, name))
 }
 
 // Why a block stops the reading of a model text.
@@ -42,7 +43,7 @@ fn of_block(stop: Stop<Refusal>) -> Stop<ModelTextFault>
     match stop {
         Stop::Memory => Stop::Memory,
         Stop::Unexpected(left) => Stop::Unexpected(left),
-        Stop::Refused(Refusal { line, fault }) => refused(line, ModelTextCause::Dim(fault)),
+        Stop::Refused(Refusal { at, fault }) => refused(at, ModelTextCause::Dim(fault)),
     }
 }
 
@@ -69,9 +70,9 @@ pub fn dimension_at(
     ensures rest { OnOk result (All IsWellFormed (ahead cursor.new)) }
     ensures shorter { OnOk result (length cursor.new.tokens < length cursor.old.tokens) }
 {
-    let (line, name) = head_at(alloc, cursor, partial)?;
+    let (position, name) = head_at(alloc, cursor, partial)?;
     let copy = copy_of(alloc, &name)?;
-    match body_at(alloc, cursor, line, name, table) {
+    match body_at(alloc, cursor, position, name, table) {
         Ok(text) => {
             partial.add_dimension(copy)?;
             Ok(text)

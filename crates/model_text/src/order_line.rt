@@ -8,6 +8,7 @@ ghost use Rattle.model_text.specs.Statement.{CubeEnd};
 
 use crate::fault::ModelTextFault;
 use crate::order::{OrderLine, OrderWord};
+use cube_lex::Position;
 use dim_name::Name;
 use grammar::{
     Cursor, Item, Stop, Unwatched, file, listed, name, number_comes, sign, sign_comes, text_comes,
@@ -21,14 +22,14 @@ use std::alloc::{AllocError, Global};
 fn rules_at(
     alloc: Global,
     cursor: &mut Cursor<'_, Unwatched>,
-) -> Result<Option<(u32, ListOf<u8>)>, Stop<ModelTextFault>>
+) -> Result<Option<(Position, ListOf<u8>)>, Stop<ModelTextFault>>
     ensures { Reads (λ rules. rules) reading.read_rules cursor.old result cursor.new }
 {
     if word_comes(cursor, b"RULES") {
-        let line = word(cursor, b"RULES")?;
+        let position = word(cursor, b"RULES")?;
         let bytes = file(alloc, cursor)?;
         sign(cursor, b";")?;
-        Ok(Some((line, ListOf::new(bytes))))
+        Ok(Some((position, ListOf::new(bytes))))
     } else {
         Ok(None)
     }
@@ -157,12 +158,12 @@ fn ranked_at(
 
 /// Reads a position.
 #[derive(Clone, Copy)]
-struct Position {
+struct OrderPosition {
     /// Whether the word `TOTALS` may stand in it.
     totals: bool,
 }
 
-impl Item<OrderWord, ModelTextFault, Unwatched> for Position {
+impl Item<OrderWord, ModelTextFault, Unwatched> for OrderPosition {
     ghost use Rattle.model_text.specs.Readers.Reading.{read_position};
 
     ghost may_read = { λ _. Unit {0} };
@@ -252,7 +253,7 @@ fn words_at(
     if word_comes(cursor, b"AUTO") {
         auto_at(alloc, cursor, totals)
     } else {
-        listed(alloc, cursor, &Position { totals })
+        listed(alloc, cursor, &OrderPosition { totals })
     }
 }
 
@@ -262,21 +263,24 @@ fn order_at(
     alloc: Global,
     cursor: &mut Cursor<'_, Unwatched>,
     totals: bool,
-) -> Result<Option<(u32, ListOf<OrderWord>)>, Stop<ModelTextFault>>
+) -> Result<Option<(Position, ListOf<OrderWord>)>, Stop<ModelTextFault>>
     ensures { Reads (λ order. order) (reading.read_order totals) cursor.old result cursor.new }
 {
     if word_comes(cursor, b"ORDER") {
-        let line = word(cursor, b"ORDER")?;
+        let position = word(cursor, b"ORDER")?;
         let words = words_at(alloc, cursor, totals)?;
         sign(cursor, b";")?;
-        Ok(Some((line, words)))
+        Ok(Some((position, words)))
     } else {
         Ok(None)
     }
 }
 
-/// The rule file of a cube and the words of its order line, where they are given, each with the line of its first word.
-pub type CubeEnd = (Option<(u32, ListOf<u8>)>, Option<(u32, ListOf<OrderWord>)>);
+/// The rule file of a cube and the words of its order line, where they are given, each with its first word's place.
+pub type CubeEnd = (
+    Option<(Position, ListOf<u8>)>,
+    Option<(Position, ListOf<OrderWord>)>,
+);
 
 /// Reads the rest of a cube, from the `)` behind its dimensions on, where the word `TOTALS` may stand in it or not.
 #[tactic(auto, unfolding(crate::specs::Readers::Reading::read_cube_end))]
@@ -297,11 +301,14 @@ pub fn cube_end_at(
 }
 
 /// The order line of a cube, where its words are given, in a text of this version.
-pub fn order_of(version: u32, order: Option<(u32, ListOf<OrderWord>)>) -> Option<(u32, OrderLine)>
+pub fn order_of(
+    version: u32,
+    order: Option<(Position, ListOf<OrderWord>)>,
+) -> Option<(Position, OrderLine)>
     ensures { result ≡ gathering.order_of version order }
 {
     match order {
-        Some((line, words)) => Some((line, OrderLine { version, words })),
+        Some((position, words)) => Some((position, OrderLine { version, words })),
         None => None,
     }
 }

@@ -8,7 +8,7 @@ ghost use Rattle.model_text.specs.Spelled.{positions_spelled, order_spelled};
 ghost use Rattle.model_text.specs.Writable.{IsNameText, IsWritableRank, IsWritableWord, IsWritableOrder};
 
 use crate::order::{OrderLine, OrderWord};
-use cube_lex::{Piece, write_line, write_pieces};
+use cube_lex::{Piece, Position, write_line, write_pieces};
 use dim_name::Name;
 use std::alloc::{AllocError, Global};
 
@@ -237,7 +237,7 @@ fn write_order_line(
 pub fn write_order(
     alloc: Global,
     out: &mut Vec<u8>,
-    order: &Option<(u32, OrderLine)>,
+    order: &Option<(Position, OrderLine)>,
 ) -> Result<(), AllocError>
     requires { IfSome order.now (λ o. IsWritableOrder o.1.words) }
     ensures { OnOk result (Writes out.old.items out.new.items (order_spelled order.now)) }

@@ -72,8 +72,8 @@ fn write_model(alloc: Global, out: &mut Vec<u8>, text: &ModelText) -> Result<(),
     write_scripts(alloc, out, text.scripts())
 }
 
-/// Writes a model text that reads back to equal contents, but for lines: its version, the blocks of its dimensions, its
-/// cubes and its scripts, in their order. A refusal changes nothing.
+/// Writes a model text that reads back to equal contents, but for places: its version, the blocks of its dimensions,
+/// its cubes and its scripts, in their order. A refusal changes nothing.
 pub fn print(alloc: Global, text: &ModelText, out: &mut Vec<u8>) -> Result<(), AllocError>
     ensures written { OnOk result (IsPrinted text.now out.old.items out.new.items) }
     ensures unchanged { OnErr result (out.new.items ≡ out.old.items) }

@@ -15,7 +15,7 @@ use crate::model::ModelText;
 use crate::partial::PartialModel;
 use crate::pieces::{closing_at, version_at};
 use crate::statements::{LaterSection, statements_at};
-use cube_lex::text_tokens;
+use cube_lex::{Position, text_tokens};
 use dim_text::DimText;
 use grammar::{Cursor, Stop, TextFault, Unwatched, answer_of_text};
 use lists::TableKeys;
@@ -36,9 +36,9 @@ fn number_at(cursor: &mut Cursor<'_, Unwatched>) -> Result<u32, Stop<ModelTextFa
         (reading.gather_version (at no_parts Nothing) (ahead cursor.old)) }
     ensures known { IfOk result (λ version. IsTrue (contents.is_version version)) }
 {
-    let (line, version) = version_at(cursor)?;
+    let (position, version) = version_at(cursor)?;
     if !is_version(version) {
-        return Err(refused(line, ModelTextCause::WrongVersion));
+        return Err(refused(position, ModelTextCause::WrongVersion));
     }
     Ok(version)
 }
@@ -88,11 +88,11 @@ fn fault_of(fault: TextFault<ModelTextFault>) -> ModelTextFault
 {
     match fault {
         TextFault::Memory => ModelTextFault {
-            line: 0,
+            at: Position::nowhere(),
             cause: ModelTextCause::Memory,
         },
-        TextFault::Syntax(line) => ModelTextFault {
-            line,
+        TextFault::Syntax(at) => ModelTextFault {
+            at,
             cause: ModelTextCause::Syntax,
         },
         TextFault::Refused(fault) => fault,

@@ -8,7 +8,7 @@ use crate::fault::ModelTextFault;
 use crate::partial::PartialModel;
 use crate::parts::ScriptText;
 use crate::pieces::{closing_at, script_file_at};
-use crate::section::{Section, line_at, new_name_at};
+use crate::section::{Section, new_name_at, position_at};
 use grammar::{Cursor, Stop, Unwatched};
 use std::alloc::Global;
 
@@ -23,10 +23,14 @@ pub fn script_at(
     ensures read { Collects reading.read_script partial.old (λ _. partial.new) cursor.old result cursor.new }
     ensures same { OnOk result (AreSame partial.old partial.new) }
 {
-    let line = line_at(cursor, partial, Section::Script)?;
-    let name = new_name_at(alloc, cursor, partial, Section::Script, line)?;
+    let position = position_at(cursor, partial, Section::Script)?;
+    let name = new_name_at(alloc, cursor, partial, Section::Script, position)?;
     let (_, file) = script_file_at(alloc, cursor)?;
     closing_at(cursor)?;
-    partial.add_script(ScriptText { line, name, file })?;
+    partial.add_script(ScriptText {
+        at: position,
+        name,
+        file,
+    })?;
     Ok(())
 }

@@ -10,6 +10,7 @@ ghost use Rattle.model_text.specs.Writable.{IsNameText};
 use crate::fault::{ModelTextCause, ModelTextFault, refused};
 use crate::partial::PartialModel;
 use crate::pieces::{name_at, section_word_at};
+use cube_lex::Position;
 use dim_name::Name;
 use grammar::{Cursor, Stop, Unwatched};
 use std::alloc::Global;
@@ -35,40 +36,40 @@ impl Section {
     }
 }
 
-/// Reads the word of a statement, and gives its line.
+/// Reads the word of a statement, and gives its place.
 #[tactic(auto, using(crate::proofs::Heads::word_gathered, crate::proofs::Heads::word_reader))]
-pub fn line_at(
+pub fn position_at(
     cursor: &mut Cursor<'_, Unwatched>,
     partial: &PartialModel,
     section: Section,
-) -> Result<u32, Stop<ModelTextFault>>
+) -> Result<Position, Stop<ModelTextFault>>
     ensures read { LeadsTo partial.now Nothing (sections.gather_word section) (sections.due section)
         cursor.old result cursor.new }
     ensures room { OnOk result (sections.is_full section partial.now ≡ false) }
 {
-    let line = section_word_at(cursor, section)?;
+    let position = section_word_at(cursor, section)?;
     if partial.is_full(section) {
-        return Err(refused(line, ModelTextCause::TooMany));
+        return Err(refused(position, ModelTextCause::TooMany));
     }
-    Ok(line)
+    Ok(position)
 }
 
-/// Reads the name of what is declared, whose word is on this line.
+/// Reads the name of what is declared, whose word is at this place.
 #[tactic(auto, using(crate::proofs::Heads::name_gathered), unfolding(crate::specs::Readers::Reading::gather_naming))]
 pub fn new_name_at(
     alloc: Global,
     cursor: &mut Cursor<'_, Unwatched>,
     partial: &PartialModel,
     section: Section,
-    word_line: u32,
+    word_position: Position,
 ) -> Result<Name, Stop<ModelTextFault>>
-    ensures read { LeadsTo partial.now (sections.due section word_line) reading.gather_naming
-        (λ name. sections.named section word_line name) cursor.old result cursor.new }
+    ensures read { LeadsTo partial.now (sections.due section word_position) reading.gather_naming
+        (λ name. sections.named section word_position name) cursor.old result cursor.new }
     ensures writable { All IsWellFormed (ahead cursor.old) → IfOk result (λ name. IsNameText name) }
 {
-    let (line, name) = name_at(alloc, cursor)?;
+    let (position, name) = name_at(alloc, cursor)?;
     if partial.has(section, &name) {
-        return Err(refused(line, ModelTextCause::Duplicate));
+        return Err(refused(position, ModelTextCause::Duplicate));
     }
     Ok(name)
 }

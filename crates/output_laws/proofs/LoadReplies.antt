@@ -36,7 +36,8 @@ use Rattle.user_text.specs.Jobs.{rows_in}
 use Rattle.user_text.specs.declared.load_job.LoadJob.{LoadJob}
 use Rattle.output_laws.proofs.Lines.{lacks, EndAlike, first_line, led, many_lines, plain_ends, split_at}
 use Rattle.output_laws.proofs.RejectCount.{few_rejects}
-use Rattle.trace_text.proofs.Plain.{lacks-append, decimal_lacks}
+use Rattle.cell_names.proofs.Plain.{lacks-append}
+use Rattle.trace_text.proofs.Plain.{decimal_lacks}
 
 -- ---- where a record was, and why it was stopped, stands in one line
 

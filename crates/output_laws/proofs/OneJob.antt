@@ -60,14 +60,15 @@ same-records model_files texts =
     (λ sources. judged (commands_judgement model_files sources texts)) (one-files Whole (record_files texts)).one_found
     (λ sources readings a b. same_users model_files sources texts a b)
 
--- one model, and the same commands of its users
+-- one model, the same commands of its users, and the same names of its rule files
 abbrev IsSameReady : Ready → Ready → Type 0
-IsSameReady a b = (a.model ≡ b.model) × AllZip (AllZip IsSameAct) a.commands b.commands
+IsSameReady a b =
+    (a.model ≡ b.model) × AllZip (AllZip IsSameAct) a.commands b.commands × (a.rule_files ≡ b.rule_files)
 
 same-behind_users : (checked : Checked) (texts : List (List UserCommand))
     → FindsSame IsSameReady (behind_users checked texts)
 same-behind_users checked texts readings a b (xs, is, p) (ys, too, q) =
-    rw (p, q) (refl, same-records checked.files texts readings xs ys is too)
+    rw (p, q) (refl, same-records checked.files texts readings xs ys is too, refl)
 
 same-behind_model : (users : List (List ℕ)) (checked : Checked) → FindsSame IsSameReady (behind_model users checked)
 same-behind_model users checked =
@@ -120,13 +121,13 @@ module _ (answers : (bytes : List ℕ) → OneScriptAnswer bytes) where
   same-plan : (plan : Plan) → FindsSame IsSameJob (plan_pass plan)
   same-plan (Run model users) =
       same-mapped IsSameReady IsSameJob (ready_pass model users) (λ ready. jobs.Serve ready.model ready.commands)
-      (same-ready model users) (λ x y same. same)
+      (same-ready model users) (λ x y same. (same.0, same.1))
   same-plan (Check model) =
       same-behind IsSameJob (model_pass model) accept (one-model model)
       (λ checked readings a b. same-accepted checked.model a b)
   same-plan (Explain model users) =
-      same-mapped IsSameReady IsSameJob (ready_pass model users) (λ ready. jobs.Explain ready.model)
-      (same-ready model users) (λ x y same. ap jobs.Explain (sym same.0))
+      same-mapped IsSameReady IsSameJob (ready_pass model users) (λ ready. jobs.Explain ready.model model ready.rule_files)
+      (same-ready model users) (λ x y same. ap (λ m. jobs.Explain m model y.rule_files) (sym same.0) ∙ ap (jobs.Explain x.model model) (sym same.2))
   same-plan (Feeders model) =
       same-behind IsSameJob (text_pass model) (behind_feeders_text model) (steady-text model).one.one_found
       (λ contents. same-behind IsSameJob (bind_pass model contents) asked_feeders (steady-bind-pass model contents).one.one_found

@@ -66,5 +66,5 @@ one_text prints one_job words content model user o p text other is known too don
     (found_ends words done.readings done.job done.accepted)
     (found_ends words again.readings again.job again.accepted) in
     let it = subst (λ readings. (run_of words).finds readings done.job) same done.accepted in
-    prints done.job again.job text other (run_serves_one words model user again.readings done.job is it)
+    prints done.readings again.readings done.job again.job text other (run_serves_one words model user again.readings done.job is it)
     (one_job words again.readings done.job again.job it again.accepted) done.output again.output

@@ -56,7 +56,8 @@ use Rattle.view_query.specs.declared.shape.View as views
 use Rattle.view_query.proofs.BoundFacts.{answers_view}
 use Rattle.output_laws.specs.Laws.{IsQuestion}
 use Rattle.output_laws.proofs.Lines.{lacks, EndAlike, plain_ends, same_ends}
-use Rattle.trace_text.proofs.Plain.{lacks-append, decimal_lacks, printed_plain}
+use Rattle.cell_names.proofs.Plain.{lacks-append}
+use Rattle.trace_text.proofs.Plain.{decimal_lacks, printed_plain}
 use Rattle.output_laws.proofs.LoadReplies.{loads_end, stopped_plain}
 use Rattle.output_laws.proofs.Published.{question_reply}
 use Rattle.output_laws.proofs.Tables.{table_apart, tables_end}

@@ -83,18 +83,18 @@ served_alike model users others text same served = record {
 }
 
 pub same_text : OneUserHasOneOutput → SameJobsPrintTheSame
-same_text one (Check model) b text other few same p q = absurd few
-same_text one (Explain model) b text other few same p q = absurd few
-same_text one (Feeders bound) b text other few same p q = absurd few
-same_text one (Sample size) b text other few same p q = absurd few
-same_text one (Serve model users) (Check again) text other few same p q = absurd same
-same_text one (Serve model users) (Explain again) text other few same p q = absurd same
-same_text one (Serve model users) (Feeders bound) text other few same p q = absurd same
-same_text one (Serve model users) (Sample size) text other few same p q = absurd same
-same_text one (Serve model []) (Serve again more) text other few same p q = absurd (omega (arith, few))
-same_text one (Serve model (commands ∷ next ∷ users)) (Serve again more) text other few same p q = absurd (omega (arith, few))
-same_text one (Serve model (commands ∷ [])) (Serve again []) text other few same p q = absurd same.1
-same_text one (Serve model (commands ∷ [])) (Serve again (more ∷ next ∷ rest)) text other few same p q = absurd same.1.1
-same_text one (Serve model (commands ∷ [])) (Serve again (more ∷ [])) text other few same p q =
+same_text one readings others (Check model) b text other few same p q = absurd few
+same_text one readings others (Explain model file files) b text other few same p q = absurd few
+same_text one readings others (Feeders bound) b text other few same p q = absurd few
+same_text one readings others (Sample size) b text other few same p q = absurd few
+same_text one readings others (Serve model users) (Check again) text other few same p q = absurd same
+same_text one readings others (Serve model users) (Explain again file files) text other few same p q = absurd same
+same_text one readings others (Serve model users) (Feeders bound) text other few same p q = absurd same
+same_text one readings others (Serve model users) (Sample size) text other few same p q = absurd same
+same_text one readings others (Serve model []) (Serve again more) text other few same p q = absurd (omega (arith, few))
+same_text one readings others (Serve model (commands ∷ next ∷ users)) (Serve again more) text other few same p q = absurd (omega (arith, few))
+same_text one readings others (Serve model (commands ∷ [])) (Serve again []) text other few same p q = absurd same.1
+same_text one readings others (Serve model (commands ∷ [])) (Serve again (more ∷ next ∷ rest)) text other few same p q = absurd same.1.1
+same_text one readings others (Serve model (commands ∷ [])) (Serve again (more ∷ [])) text other few same p q =
     let alike = served_alike model (commands ∷ []) (more ∷ []) text same.1 p in
     one again more text other (subst (λ m. IsServed m (more ∷ []) text) same.0 alike) q

@@ -15,7 +15,8 @@ use Rattle.view_query.specs.declared.shape.View.{View}
 use Rattle.view_query.specs.Views.{lines, cell_at, cell_count, most_view_cells}
 use Rattle.view_query.specs.Table.{is_shown, shown_name, head_line, row_line, shown_rows, shown_columns, table_text}
 use Rattle.output_laws.proofs.Lines.{lacks, split_at, first_line, many_lines, led, EndAlike}
-use Rattle.trace_text.proofs.Plain.{lacks-append, decimal_lacks, printed_plain, joined_plain}
+use Rattle.cell_names.proofs.Plain.{lacks-append}
+use Rattle.trace_text.proofs.Plain.{decimal_lacks, printed_plain, joined_plain}
 use Rattle.output_laws.proofs.Names.{shown_plain}
 
 -- ---- lists of plain texts

@@ -62,10 +62,10 @@ abbrev pub IsSameJob : RunJob → RunJob → Type 0
 IsSameJob (jobs.Serve model users) (jobs.Serve other more) =
     (model ≡ other) × AllZip (AllZip IsSameAct) users more
 IsSameJob (jobs.Serve model users) (jobs.Check other) = ⊥
-IsSameJob (jobs.Serve model users) (jobs.Explain other) = ⊥
+IsSameJob (jobs.Serve model users) (jobs.Explain other file files) = ⊥
 IsSameJob (jobs.Serve model users) (jobs.Feeders bound) = ⊥
 IsSameJob (jobs.Serve model users) (jobs.Sample size) = ⊥
 IsSameJob (jobs.Check model) job = job ≡ jobs.Check model
-IsSameJob (jobs.Explain model) job = job ≡ jobs.Explain model
+IsSameJob (jobs.Explain model file files) job = job ≡ jobs.Explain model file files
 IsSameJob (jobs.Feeders bound) job = job ≡ jobs.Feeders bound
 IsSameJob (jobs.Sample size) job = job ≡ jobs.Sample size

@@ -80,7 +80,10 @@ fn fault_told(alloc: Global, fault: &DeployFault) -> Result<String, AllocError> 
         None => "model",
     };
     match at {
-        At::Line(number) => format!(in alloc; "refused {name}: line {number}: {cause:?}"),
+        At::Text(place) => {
+            let line = place.line;
+            format!(in alloc; "refused {name}: line {line}: {cause:?}")
+        }
         At::Statement(number) => format!(in alloc; "refused {name}: statement {number}: {cause:?}"),
         At::Feeder(number) => format!(in alloc; "refused {name}: feeder {number}: {cause:?}"),
     }

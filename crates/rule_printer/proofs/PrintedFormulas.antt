@@ -2,6 +2,7 @@
 use Rattle.std.proofs.Common.{◌≡◌, ℕ, List, [], ◌∷◌, ◌++◌, map, Bool, true, false, Option, Some, ◌&&◌, if◌then◌else◌, refl, sym, ap, ◌∙◌, subst, inl, inr, codes, append-nil}
 use Rattle.std.specs.List.{flat_map}
 use Rattle.cube_lex.specs.Lexeme.{Lexeme}
+use Rattle.cube_lex.specs.Positions.{position_of}
 use Rattle.cube_lex.specs.Quoted.{unquoted}
 use Rattle.cube_lex.specs.Written.{Spelling, sign_token, text_token, word_token}
 use Rattle.dim_name.specs.Name.{is_name}
@@ -68,7 +69,7 @@ module _ (place : Limits → RuleTextPlace) (base : ℕ) (is : IsPlace place bas
         subst (λ y. Spells (both (one (word w)) (λ _. done tree)) (tree_spelled y) y) (sym is-e)
         (subst (λ l. Spells (both (one (word w)) (λ _. done tree)) l tree) (sym tokens) (spells_word w (λ _. spells_done tree)));
     once = λ u e (v, x, a, parts, (t, is-t, takes), (nothing, is-e)). (
-        let (word_is, _) = when_picks (is_word w) (λ t. t.line) t a takes in
+        let (word_is, _) = when_picks (is_word w) position_of t a takes in
         let (kind, _) = and_is (is_word_kind t.kind) _ word_is in
         subst (Once place base is c) (sym (parts ∙ ap (λ l. v ++ l) nothing ∙ append-nil v ∙ is-t)) (once_word place base is c t (word_no_sign t.kind kind)));
   }

@@ -2,6 +2,7 @@
 use Rattle.std.proofs.Common.{◌≡◌, ℕ, ◌+◌, List, [], ◌∷◌, ◌++◌, map, Bool, true, false, Some, Ok, Err, not, ◌&&◌, nat_lt, if◌then◌else◌, refl, sym, ap, ◌∙◌, subst, codes, arith}
 use Rattle.std.specs.Result.{result_ok}
 use Rattle.cube_lex.specs.Lexeme.{Lexeme}
+use Rattle.cube_lex.specs.Positions.{position_of}
 use Rattle.cube_lex.specs.Written.{Spelling, spelling_of, sign_token, word_token}
 use Rattle.cube_lex.specs.declared.token.Kind.TheVariants as kinds
 use Rattle.grammar.specs.Tokens.{is_sign, is_word}
@@ -129,7 +130,7 @@ unfolding count
 areas_open c r s t s-is t-is taken =
     let here : Counted = record c { place = places.Between } in
     let (there, place) = one_of c.feeding (nat_lt c.feeders most_statements) (not c.feeding) (nat_lt c.statements most_statements)
-    (record here { feeders = c.feeders + 1; place = places.Area }) (record here { statements = c.statements + 1; place = places.Area }) r (excesses.TooMany t.line) (excesses.TooMany s.line) refl refl
+    (record here { feeders = c.feeders + 1; place = places.Area }) (record here { statements = c.statements + 1; place = places.Area }) r (excesses.TooMany (position_of t)) (excesses.TooMany (position_of s)) refl refl
     (sym (ap (step here) (sign_literal (codes "[") t t-is)) ∙ taken) in
     (ap (step here) (sign_literal (codes "[") s s-is) ∙ there, place)
 

@@ -3,7 +3,9 @@ use Rattle.std.proofs.Common.{◌≡◌, ℕ, List, [], ◌∷◌, ◌++◌, map
 use Rattle.std.specs.List.{flat_map}
 use Rattle.std.specs.Str.{str_eq_ignore_ascii_case}
 use Rattle.cube_lex.specs.Lexeme.{Lexeme}
+use Rattle.cube_lex.specs.Positions.{position_of}
 use Rattle.cube_lex.specs.Written.{Spelling, spelling_of, sign_token, word_token}
+use Rattle.cube_lex.specs.declared.position.Position.{Position}
 use Rattle.cube_lex.specs.declared.token.Kind.TheVariants as kinds
 use Rattle.grammar.specs.Grammar.{Grammar, one, both, many}
 use Rattle.grammar.specs.Tokens.{is_sign, is_word_kind, is_word, sign, word}
@@ -37,7 +39,7 @@ no_sign_word : (w s : List ℕ) (x : Lexeme) → is_word w x ≡ true → is_sig
 no_sign_word w s x is = let (kind, _) = and_is (is_word_kind x.kind) (str_eq_ignore_ascii_case x.piece w) is in rw (word_no_sign x.kind kind) refl
 
 other_word : (w v : List ℕ) → str_eq_ignore_ascii_case w v ≡ false → (x : Lexeme) → is_word w x ≡ true → is_word v x ≡ false
-other_word w v other x is = word_tells w v x x.line (word_is w x is) ∙ other
+other_word w v other x is = word_tells w v x (position_of x) (word_is w x is) ∙ other
 
 -- between statements, a word but `FEEDERS` leads nowhere
 between_word : (w : List ℕ) → str_eq_ignore_ascii_case w (codes "FEEDERS") ≡ false → (c : Counted) (x : Lexeme) → is_word w x ≡ true → step (record c { place = places.Between }) x ≡ Some (record c { place = places.Between })
@@ -101,8 +103,8 @@ argument_closing c n x = refl
 the_sign : (s : List ℕ) (p q : RuleTextPlace) → ((c : Counted) (x : Lexeme) → step (record c { place = p }) (literal kinds.Sign s x) ≡ Some (record c { place = q })) → (u : List Lexeme) (a : Unit {0}) → one (sign s) u a → Follows p q (sign_token s ∷ []) u
 the_sign s p q moves u a (t, is, takes) = let (sign_is, _) = when_picks (is_sign s) (λ _. tt) t a takes in subst (Follows p q (sign_token s ∷ [])) (sym is) (follows_sign s p q t sign_is moves)
 
-the_word : (w : List ℕ) (p q : RuleTextPlace) (f : Counted → Counted) → ((c : Counted) → (f c).place ≡ q) → ((c : Counted) (x : Lexeme) → is_word w x ≡ true → step (record c { place = p }) x ≡ Some (f c)) → (u : List Lexeme) (a : ℕ) → one (word w) u a → Follows p q (word_token w ∷ []) u
-the_word w p q f leads moves u a (t, is, takes) = let (word_so, _) = when_picks (is_word w) (λ t. t.line) t a takes in subst (Follows p q (word_token w ∷ [])) (sym is) (follows_word w p q t word_so f leads moves)
+the_word : (w : List ℕ) (p q : RuleTextPlace) (f : Counted → Counted) → ((c : Counted) → (f c).place ≡ q) → ((c : Counted) (x : Lexeme) → is_word w x ≡ true → step (record c { place = p }) x ≡ Some (f c)) → (u : List Lexeme) (a : Position) → one (word w) u a → Follows p q (word_token w ∷ []) u
+the_word w p q f leads moves u a (t, is, takes) = let (word_so, _) = when_picks (is_word w) position_of t a takes in subst (Follows p q (word_token w ∷ [])) (sym is) (follows_word w p q t word_so f leads moves)
 
 -- the same, where the text is told by its parts
 told : {p q : RuleTextPlace} {xs : List Spelling} {u v : List Lexeme} → u ≡ v → Follows p q xs v → Follows p q xs u

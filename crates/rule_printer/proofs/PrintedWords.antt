@@ -15,6 +15,8 @@ use Rattle.cube_lex.specs.Lexeme.{Lexeme}
 use Rattle.cube_lex.specs.Quoted.{unquoted}
 use Rattle.cube_lex.specs.Written.{Spelling, spelling_of, text_token, word_token}
 use Rattle.cube_lex.proofs.Quotes.{unquoted-quoted}
+use Rattle.cube_lex.specs.Positions.{position_of}
+use Rattle.cube_lex.specs.declared.position.Position.{Position}
 use Rattle.dim_name.specs.Name.{is_name}
 use Rattle.grammar.specs.Grammar.{Grammar, one, both, many}
 use Rattle.grammar.specs.Tokens.{is_word_kind, is_text_kind, is_number_kind, is_word, capitals, sign, word, name, text, money, capital_word}
@@ -33,12 +35,12 @@ is_written_word w t e =
     let piece : str_eq_ignore_ascii_case t.piece w ≡ true = ap (λ s. str_eq_ignore_ascii_case s.piece w) e ∙ bytes_eq_self (str_to_ascii_lowercase w) in
     and_from _ _ kind piece
 
--- a word whose line isn't asked for
-pub spells_word : {A : Type 0} {K : ℕ → Grammar Lexeme A} {ys : List Spelling} {b : A} (w : List ℕ) → ((line : ℕ) → Spells (K line) ys b) → Spells (both (one (word w)) K) (word_token w ∷ ys) b
+-- a word whose place isn't asked for
+pub spells_word : {A : Type 0} {K : Position → Grammar Lexeme A} {ys : List Spelling} {b : A} (w : List ℕ) → ((at : Position) → Spells (K at) ys b) → Spells (both (one (word w)) K) (word_token w ∷ ys) b
 spells_word {ys = ys} w k = record {
   at = λ ts e. (
       let (t, v, is, first, rest) = split_next ts (word_token w) ys e in
-      (t ∷ [], v, t.line, is, (t, refl, cond-true _ (Some t.line) _ (is_written_word w t first)), (k t.line).at v rest));
+      (t ∷ [], v, (position_of t), is, (t, refl, cond-true _ (Some (position_of t)) _ (is_written_word w t first)), (k (position_of t)).at v rest));
 }
 
 pub picks_text : (bytes : List ℕ) → Picks text (text_token bytes) bytes

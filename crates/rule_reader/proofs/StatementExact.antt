@@ -2,6 +2,7 @@
 use Rattle.std.proofs.Common.{◌≡◌, ℕ, List, [], ◌∷◌, ◌++◌, Some, None, true, false, ◌&&◌, if◌then◌else◌, codes, refl, sym, ◌∙◌, ap, inl, inr, append-nil, append_assoc}
 use Rattle.std.specs.Str.{str_eq_ignore_ascii_case}
 use Rattle.cube_lex.specs.Lexeme.{Lexeme}
+use Rattle.cube_lex.specs.Positions.{position_of}
 use Rattle.grammar.specs.Grammar.{Grammar, one, both, done, either}
 use Rattle.grammar.specs.Tokens.{sign, word, is_sign, is_word, is_word_kind, capitals}
 use Rattle.grammar.proofs.Exact.{Exact, Always, Not, exact_gives, exact_then, exact_made}
@@ -61,7 +62,7 @@ plain_exact = exact_made (λ tree. bodies.Both tree) ended_exact
 
 part_starts : (mark : List ℕ) (u : List Lexeme) (tree : Tree) (rest : List Lexeme) → part mark u tree → starts_part mark (u ++ rest) ≡ true
 part_starts mark u tree rest (a, b, line, parts, (t, is, picks), (c, d, x, more, (s, single, colon), h)) =
-    let (marked, _) = when_picks (is_word mark) (λ t. t.line) t line picks in
+    let (marked, _) = when_picks (is_word mark) position_of t line picks in
     let (follows, _) = when_picks (is_sign (codes ":")) (λ _. tt) s x colon in
     ap (λ l. starts_part mark (l ++ rest)) (parts ∙ ap (λ l. l ++ b) is ∙ ap (λ l. t ∷ l) (more ∙ ap (λ l. l ++ d) single))
     ∙ ap (λ m. m && is_sign (codes ":") s) marked ∙ follows
@@ -86,9 +87,9 @@ plain_begins = begins_both (begins_both (expression_has_token rules_are_language
 part_of_word : (mark : List ℕ) (t : Lexeme) → is_word mark t ≡ true → (v : List Lexeme) × (tree : Tree) × part mark (t ∷ v) tree
 part_of_word mark t comes =
     let (w, tree, h) = ended_exact.word in
-    let picks : word mark t ≡ Some t.line = ap (λ b. if b then Some t.line else None) comes in
+    let picks : word mark t ≡ Some (position_of t) = ap (λ b. if b then Some (position_of t) else None) comes in
     let colon : Lexeme = sign_of (codes ":") in
-    (colon ∷ w, tree, (t ∷ [], colon ∷ w, t.line, refl, (t, refl, picks), (colon ∷ [], w, tt, refl, (colon, refl, refl), h)))
+    (colon ∷ w, tree, (t ∷ [], colon ∷ w, (position_of t), refl, (t, refl, picks), (colon ∷ [], w, tt, refl, (colon, refl, refl), h)))
 
 leaf_of_word : (t : Lexeme) → is_word (codes "N") t ≡ true → (v : List Lexeme) × (a : BodyText) × leaf_first (t ∷ v) a
 leaf_of_word t comes = let (v, tree, h) = part_of_word (codes "N") t comes in (v, bodies.Leaf tree, (t ∷ v, [], tree, sym (append-nil (t ∷ v)), h, inr (refl, refl)))

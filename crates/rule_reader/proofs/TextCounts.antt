@@ -3,6 +3,7 @@ use Rattle.std.proofs.Common.{◌≡◌, ◌≤◌, ◌+◌, ℕ, List, [], ◌�
 use Rattle.std.proofs.lemmas.Bool.{ltb-true}
 use Rattle.std.specs.Str.{bytes_eq, str_eq_ignore_ascii_case}
 use Rattle.cube_lex.specs.Lexeme.{Lexeme}
+use Rattle.cube_lex.specs.Positions.{position_of}
 use Rattle.grammar.specs.Grammar.{Grammar, done, one, both, either, many}
 use Rattle.grammar.specs.Tokens.{sign, word, is_sign, is_word, is_sign_kind}
 use Rattle.grammar.specs.Watch.{AllPass, joined, Passes}
@@ -247,10 +248,10 @@ feeder_more true false y p q z s among e = absurd (cc e)
 -- one more begins
 one_begins : (f : Bool) (n : ℕ) (t : Lexeme) (r s : Counted) → one_more r t ≡ Ok s → Stands InBetween f n r → Stands InArea f (n + 1) s
 one_begins true n t r s e h =
-    let (room, same) = feeder_more r.feeding (nat_lt r.feeders most_statements) (nat_lt r.statements most_statements) (record r { feeders = r.feeders + 1; place = places.Area }) (record r { statements = r.statements + 1; place = places.Area }) (excesses.TooMany t.line) s h.among e in
+    let (room, same) = feeder_more r.feeding (nat_lt r.feeders most_statements) (nat_lt r.statements most_statements) (record r { feeders = r.feeders + 1; place = places.Area }) (record r { statements = r.statements + 1; place = places.Area }) (excesses.TooMany (position_of t)) s h.among e in
     subst (Stands InArea true (n + 1)) same (record { place = tt; among = h.among; number = ap (λ k. k + 1) h.number; few = omega (arith, ltb-true r.feeders most_statements room, h.number); no_feeders = λ none. absurd (cc none) })
 one_begins false n t r s e h =
-    let (room, same) = statement_more r.feeding (nat_lt r.feeders most_statements) (nat_lt r.statements most_statements) (record r { feeders = r.feeders + 1; place = places.Area }) (record r { statements = r.statements + 1; place = places.Area }) (excesses.TooMany t.line) s h.among e in
+    let (room, same) = statement_more r.feeding (nat_lt r.feeders most_statements) (nat_lt r.statements most_statements) (record r { feeders = r.feeders + 1; place = places.Area }) (record r { statements = r.statements + 1; place = places.Area }) (excesses.TooMany (position_of t)) s h.among e in
     subst (Stands InArea false (n + 1)) same (record { place = tt; among = h.among; number = ap (λ k. k + 1) h.number; few = omega (arith, ltb-true r.statements most_statements room, h.number); no_feeders = h.no_feeders })
 
 chosen : {A : Type 0} (b : Bool) (x y z : A) → (if b then x else y) ≡ z → b ≡ true → x ≡ z

@@ -4,6 +4,7 @@ use Rattle.std.specs.List.{sum_by}
 use Rattle.std.specs.Str.{bytes_eq, str_eq_ignore_ascii_case}
 use Rattle.std.proofs.lemmas.List.Sums.{sum_by-cons, sum-map}
 use Rattle.cube_lex.specs.Lexeme.{Lexeme}
+use Rattle.cube_lex.specs.Positions.{position_of}
 use Rattle.cube_lex.specs.declared.token.Kind.{Kind}
 use Rattle.cube_lex.specs.declared.token.Kind.TheVariants as kinds
 use Rattle.grammar.specs.Grammar.{Grammar, one, either}
@@ -33,7 +34,7 @@ use Rattle.rule_reader.proofs.PrimaryExact.{word_name_kind}
 use Rattle.rule_reader.proofs.Fits.{Fits, Free, fits_done, fits_one, fits_both, fits_either, fits_many, fits_behind, fits_lighter, fits_any, fits_listed, fits_perhaps}
 
 marks_kind : (w : List ℕ) → HasKind (one (word w)) kinds.Word
-marks_kind w = one_kind (word w) kinds.Word (λ t a e. word_is t.kind (and_is (is_word_kind t.kind) (str_eq_ignore_ascii_case t.piece w) (when_picks (is_word w) (λ t. t.line) t a e).0).0)
+marks_kind w = one_kind (word w) kinds.Word (λ t a e. word_is t.kind (and_is (is_word_kind t.kind) (str_eq_ignore_ascii_case t.piece w) (when_picks (is_word w) position_of t a e).0).0)
 
 module _ (signs : List ℕ → Bool) where
   abbrev P : Lexeme → Bool

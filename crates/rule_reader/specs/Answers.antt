@@ -13,7 +13,7 @@ use Rattle.rule_tree.specs.declared.rule.RuleText.{RuleText}
 -- is said.
 abbrev pub Answers : List ℕ → Result RuleText RuleFault → Type 0
 Answers bytes (Ok text) = (c : Counted) × IsWholeText rules counting start bytes text c
-Answers bytes (Err (faults.Syntax line)) = IsWholeSyntax rules counting start bytes line
-Answers bytes (Err (faults.TooDeep line)) = IsWholeRefused rules counting start bytes (excesses.TooDeep line)
-Answers bytes (Err (faults.TooMany line)) = IsWholeRefused rules counting start bytes (excesses.TooMany line)
+Answers bytes (Err (faults.Syntax at)) = IsWholeSyntax rules counting start bytes at
+Answers bytes (Err (faults.TooDeep at)) = IsWholeRefused rules counting start bytes (excesses.TooDeep at)
+Answers bytes (Err (faults.TooMany at)) = IsWholeRefused rules counting start bytes (excesses.TooMany at)
 Answers bytes (Err faults.Memory) = Unit {0}

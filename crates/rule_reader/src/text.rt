@@ -112,8 +112,8 @@ pub fn parse(alloc: Global, text: &[u8]) -> Result<RuleText, RuleFault>
     match answer_of_text(&tokens, read, &cursor) {
         Ok(rules) => Ok(rules),
         Err(TextFault::Memory) => Err(RuleFault::Memory),
-        Err(TextFault::Syntax(line)) => Err(RuleFault::Syntax(line)),
-        Err(TextFault::Refused(Excess::TooDeep(line))) => Err(RuleFault::TooDeep(line)),
-        Err(TextFault::Refused(Excess::TooMany(line))) => Err(RuleFault::TooMany(line)),
+        Err(TextFault::Syntax(position)) => Err(RuleFault::Syntax(position)),
+        Err(TextFault::Refused(Excess::TooDeep(position))) => Err(RuleFault::TooDeep(position)),
+        Err(TextFault::Refused(Excess::TooMany(position))) => Err(RuleFault::TooMany(position)),
     }
 }

@@ -2,6 +2,7 @@
 use Rattle.std.specs.Prelude.{ℕ, ◌+◌, ◌==◌, nat_lt, false, not, ◌&&◌, ◌||◌}
 use Rattle.std.specs.Prelude.{if◌then◌else◌, codes, Option, Some, None, Result, Ok, Err}
 use Rattle.cube_lex.specs.Lexeme.{Lexeme}
+use Rattle.cube_lex.specs.Positions.{position_of}
 use Rattle.grammar.specs.Tokens.{is_sign, is_word}
 use Rattle.grammar.specs.Watch.{Watch, each_token}
 use Rattle.expression_grammar.specs.Limits.{begun_within, scanned}
@@ -25,7 +26,7 @@ abbrev pub with_token : Limits → Lexeme → Result Limits Excess
 with_token l t = told (scanned l t) where
   told : Option Limits → Result Limits Excess
   told (Some more) = Ok more
-  told None = Err (excesses.TooDeep t.line)
+  told None = Err (excesses.TooDeep (position_of t))
 
 abbrev pub in_place : (Limits → RuleTextPlace) → Result Limits Excess → Result RuleTextPlace Excess
 in_place place (Ok l) = Ok (place l)
@@ -65,7 +66,7 @@ one_more c t =
     if c.feeding && nat_lt c.feeders most_statements then Ok (record c { feeders = c.feeders + 1; place = places.Area })
     else if not c.feeding && nat_lt c.statements most_statements
     then Ok (record c { statements = c.statements + 1; place = places.Area })
-    else Err (excesses.TooMany t.line)
+    else Err (excesses.TooMany (position_of t))
 
 -- Behind the `;` of a part a second part may come, whose formula begins behind its `:`.
 abbrev pub behind_all : Counted → Lexeme → Result Counted Excess

@@ -41,7 +41,7 @@ fn with(limits: &Limits, token: &Token<'_>) -> Result<Limits, Excess>
 {
     match limits.with(token) {
         Some(more) => Ok(more),
-        None => Err(Excess::TooDeep(token.line)),
+        None => Err(Excess::TooDeep(token.position())),
     }
 }
 
@@ -123,7 +123,7 @@ impl Counted {
                 ..*self
             })
         } else {
-            Err(Excess::TooMany(token.line))
+            Err(Excess::TooMany(token.position()))
         }
     }
 

@@ -3,9 +3,10 @@ use Rattle.std.proofs.Common.{◌≡◌, ℕ, zero, suc, ◌+◌, ◌<◌, ◌�
 use Rattle.std.specs.Prelude.{count_by}
 use Rattle.std.proofs.lemmas.Bool.{cases_lt}
 use Rattle.std.proofs.lemmas.List.{take_all, length-take-le}
-use Rattle.cube_lex.specs.Bytes.{is_line_end, line_at}
+use Rattle.cube_lex.specs.Bytes.{is_line_end}
 use Rattle.cube_lex.specs.Fault.{place_of}
 use Rattle.cube_lex.specs.Lexed.{Lexed}
+use Rattle.cube_lex.specs.Positions.{position_at}
 use Rattle.cube_lex.specs.Reading.{IsReading, most_text_bytes}
 use Rattle.cube_lex.specs.declared.fault.LexFault.{LexFault}
 use Rattle.cube_lex.specs.declared.fault.LexFault.TheVariants.{TooLong}
@@ -28,19 +29,19 @@ module _ (text : List ℕ) (lexed : Lexed) (fault : Option LexFault) where
   long : most_text_bytes < length text → length front ≡ most_text_bytes + 1
   long large = length-take-le (most_text_bytes + 1) text (omega (arith, large))
 
-  -- the fault of a text that is too long is on the same line of both
-  same-line : fault ≡ Some (TooLong most_text_bytes) → line_at front (place_of front fault) ≡ line_at text (place_of text fault)
-  same-line is =
-      ap (λ f. line_at front (place_of front f)) is
-      ∙ ap (λ l. 1 + count_by is_line_end l) (take-front most_text_bytes (most_text_bytes + 1) text (omega arith))
-      ∙ sym (ap (λ f. line_at text (place_of text f)) is)
+  -- the fault of a text that is too long is at the same place of both
+  same-place : fault ≡ Some (TooLong most_text_bytes) → position_at front (place_of front fault) ≡ position_at text (place_of text fault)
+  same-place is =
+      ap (λ f. position_at front (place_of front f)) is
+      ∙ ap (λ l. record { offset = most_text_bytes; line = 1 + count_by is_line_end l }) (take-front most_text_bytes (most_text_bytes + 1) text (omega arith))
+      ∙ sym (ap (λ f. position_at text (place_of text f)) is)
 
   front-reads : (most_text_bytes < length text) ⊎ (length text ≤ most_text_bytes) → IsReading text lexed fault → IsReading front lexed fault
   front-reads (inr small) is = subst (λ l. IsReading l lexed fault) (sym (whole small)) is
   front-reads (inl large) is = record {
     oversize = λ _. is.oversize large;
     within = λ low. absurd (omega (arith, low, long large));
-    end = is.end ∙ sym (same-line (is.oversize large).1);
+    end = is.end ∙ sym (same-place (is.oversize large).1);
   }
 
   text-reads : (most_text_bytes < length text) ⊎ (length text ≤ most_text_bytes) → IsReading front lexed fault → IsReading text lexed fault
@@ -50,7 +51,7 @@ module _ (text : List ℕ) (lexed : Lexed) (fault : Option LexFault) where
       record {
         oversize = λ _. is.oversize over;
         within = λ low. absurd (omega (arith, low, large));
-        end = is.end ∙ same-line (is.oversize over).1;
+        end = is.end ∙ same-place (is.oversize over).1;
       }
 
 pub fronts-alike : FrontsReadAlike

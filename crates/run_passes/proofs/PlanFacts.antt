@@ -126,7 +126,7 @@ alike-behind_users : (a b : Checked) (texts : List (List UserCommand)) → AreAl
 alike-behind_users a b texts =
     alike-bind (records_pass a.files texts) (records_pass b.files texts) (behind_records a) (behind_records b)
     (alike-records a.files b.files texts) (alike-records b.files a.files texts)
-    (λ readings x y p q. alike-found (ready_of a.model x) (ready_of b.model y))
+    (λ readings x y p q. alike-found (ready_of a x) (ready_of b y))
 
 alike-behind_model : (users : List (List ℕ)) (a b : Checked) → a.files.script_names ≡ b.files.script_names → AreAlike (behind_model users a) (behind_model users b)
 alike-behind_model users a b same =
@@ -173,9 +173,9 @@ settled-plan (Run model users) =
 settled-plan (Explain model users) =
     let settled = settled-ready model users in
     record {
-      alike = alike-bind (ready_pass model users) (ready_pass model users) explained explained settled.alike settled.alike
-          (λ readings a b p q. alike-found (jobs.Explain a.model) (jobs.Explain b.model));
-      worded = worded-behind (ready_pass model users) explained settled.worded (λ ready readings stops. stops);
+      alike = alike-bind (ready_pass model users) (ready_pass model users) (explained model) (explained model) settled.alike settled.alike
+          (λ readings a b p q. alike-found (jobs.Explain a.model model a.rule_files) (jobs.Explain b.model model b.rule_files));
+      worded = worded-behind (ready_pass model users) (explained model) settled.worded (λ ready readings stops. stops);
     }
 settled-plan (Check model) =
     let settled = settled-model model in

@@ -76,13 +76,13 @@ records_pass model_files users = do
   sources ← files Whole (record_files users)
   judged (commands_judgement model_files sources users)
 
--- the model, and the commands of its users as they are run
+-- the model, the commands of its users as they are run, and the names of its rule files
 abbrev pub ready_pass : List ℕ → List (List ℕ) → Pass Ready
 ready_pass model users = do
   checked ← model_pass model
   texts ← users_pass checked.files.script_names users
   commands ← records_pass checked.files texts
-  found (record { model = checked.model; commands = commands })
+  found (record { model = checked.model; commands = commands; rule_files = checked.files.rule_files })
 
 -- the passes of each plan; an explanation has those of a run
 abbrev pub plan_pass : Plan → Pass RunJob
@@ -94,7 +94,7 @@ plan_pass (Check model) = do
   found (jobs.Check checked.model)
 plan_pass (Explain model users) = do
   ready ← ready_pass model users
-  found (jobs.Explain ready.model)
+  found (jobs.Explain ready.model model ready.rule_files)
 plan_pass (Feeders model) = do
   contents ← text_pass model
   bound ← bind_pass model contents

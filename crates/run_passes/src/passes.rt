@@ -1,4 +1,4 @@
-ghost use Rattle.std.specs.Prelude.{◌≡◌};
+ghost use Rattle.std.specs.Prelude.{◌≡◌, IfOk};
 ghost use Rattle.cube_words.specs.Words.{asked, Check, Explain, Run, texts_of};
 ghost use Rattle.file_passes.specs.Halting.{Comes};
 ghost use Rattle.file_passes.specs.Outside.{outside};
@@ -17,7 +17,7 @@ use file_passes::{Halt, Readings, obtain_all};
 use judged_files::{ModelFiles, commands_of, record_files, users_of};
 use lists::ListOf;
 use sandbox::Act;
-use std::alloc::Global;
+use std::alloc::{AllocError, Global};
 use user_session::PlanCommand;
 use user_text::UserCommand;
 
@@ -131,8 +131,18 @@ fn explain_pass<F: Files>(
     ensures { Comes (plan_pass (Explain model.now (texts_of users.now)))
         (outside F.seen files.old files.new) readings.old readings.new result }
 {
+    let file = match name_of(alloc, model) {
+        Ok(file) => file,
+        Err(_) => return Err(Halt::Memory),
+    };
     let ready = ready_pass(alloc, files, readings, model, users)?;
-    Ok(RunJob::Explain(ready.model))
+    Ok(RunJob::Explain(ready.model, file, ready.rule_files))
+}
+
+fn name_of(alloc: Global, name: &str) -> Result<ListOf<u8>, AllocError>
+    ensures { IfOk result (λ copy. copy ≡ name.now) }
+{
+    Ok(ListOf::new(Vec::from_slice(alloc, name.as_bytes())?))
 }
 
 // The model, and the commands of its users.
@@ -179,10 +189,15 @@ fn behind_users<F: Files>(
     ensures { Comes (behind_users checked texts) (outside F.seen files.old files.new)
         readings.old readings.new result }
 {
+    let rule_files = match checked.files.rule_file_names(alloc) {
+        Ok(rule_files) => rule_files,
+        Err(_) => return Err(Halt::Memory),
+    };
     let commands = records_pass(alloc, files, readings, &checked.files, texts)?;
     Ok(Ready {
         model: checked.model,
         commands,
+        rule_files,
     })
 }
 

@@ -11,8 +11,9 @@ pub enum RunJob {
     Serve(Accepted, ListOf<ListOf<Act<PlanCommand>>>),
     /// Tells that the model is accepted, with its rules and scripts.
     Check(Accepted),
-    /// The same, also of the users' files. No user is run.
-    Explain(Accepted),
+    /// The same, also of the users' files, and what is hardly ever meant in the model file of this name and in the rule
+    /// files of these names, one of each cube. No user is run.
+    Explain(Accepted, ListOf<u8>, ListOf<ListOf<u8>>),
     /// Prints the feeders that are found for the model.
     Feeders(Bound),
     /// Runs the generated sample of so many records.

@@ -3,6 +3,8 @@ use Rattle.std.proofs.Common.{◌≡◌, ℕ, List, [], ◌∷◌, Some, None, B
 use Rattle.std.specs.Str.{str_eq_ignore_ascii_case}
 use Rattle.std.proofs.lemmas.Bool.{false_from_ne_true, true≢false}
 use Rattle.cube_lex.specs.Lexeme.{Lexeme}
+use Rattle.cube_lex.specs.Positions.{position_of}
+use Rattle.cube_lex.specs.declared.position.Position.{Position}
 use Rattle.cube_lex.specs.declared.token.Kind.TheVariants as kinds
 use Rattle.grammar.specs.Grammar.{one}
 use Rattle.grammar.specs.Reading.{take_one}
@@ -32,10 +34,10 @@ four k a b c d w x y z o p q r s = ap (λ l. l && not (a || b || c || d)) o ∙ 
 abbrev goes_behind : List ℕ → Bool
 goes_behind w = str_eq_ignore_ascii_case w (codes "ELSEIF") || str_eq_ignore_ascii_case w (codes "ELSE") || str_eq_ignore_ascii_case w (codes "ENDIF") || str_eq_ignore_ascii_case w (codes "END")
 
-word_kind : (w : List ℕ) (t : Lexeme) (x : ℕ) → word w t ≡ Some x → is_any_word t ≡ true
-word_kind w t x e = (and_is (is_word_kind t.kind) (str_eq_ignore_ascii_case t.piece w) (when_picks (is_word w) (λ t. t.line) t x e).0).0
+word_kind : (w : List ℕ) (t : Lexeme) (x : Position) → word w t ≡ Some x → is_any_word t ≡ true
+word_kind w t x e = (and_is (is_word_kind t.kind) (str_eq_ignore_ascii_case t.piece w) (when_picks (is_word w) position_of t x e).0).0
 
-word_opens : (w : List ℕ) (t : Lexeme) (x : ℕ) → word w t ≡ Some x → begins_statement t ≡ not (goes_behind w)
+word_opens : (w : List ℕ) (t : Lexeme) (x : Position) → word w t ≡ Some x → begins_statement t ≡ not (goes_behind w)
 word_opens w t x e = four (is_any_word t) (is_word (codes "ELSEIF") t) (is_word (codes "ELSE") t) (is_word (codes "ENDIF") t) (is_word (codes "END") t) _ _ _ _
     (word_kind w t x e) (word_tells w (codes "ELSEIF") t x e) (word_tells w (codes "ELSE") t x e) (word_tells w (codes "ENDIF") t x e) (word_tells w (codes "END") t x e)
 
@@ -46,7 +48,7 @@ word_statement w = begins_one (word w) begins_statement (not (goes_behind w)) (w
 pub word_any : (w : List ℕ) → Begins (one (word w)) is_any_word true
 word_any w = begins_one (word w) is_any_word true (word_kind w)
 
-word_leaps : (w : List ℕ) (t : Lexeme) (x : ℕ) → word w t ≡ Some x → is_leap t ≡ (str_eq_ignore_ascii_case w (codes "ITEMSKIP") || str_eq_ignore_ascii_case w (codes "PROCESSBREAK") || str_eq_ignore_ascii_case w (codes "PROCESSERROR"))
+word_leaps : (w : List ℕ) (t : Lexeme) (x : Position) → word w t ≡ Some x → is_leap t ≡ (str_eq_ignore_ascii_case w (codes "ITEMSKIP") || str_eq_ignore_ascii_case w (codes "PROCESSBREAK") || str_eq_ignore_ascii_case w (codes "PROCESSERROR"))
 word_leaps w t x e = three (is_word (codes "ITEMSKIP") t) (is_word (codes "PROCESSBREAK") t) (is_word (codes "PROCESSERROR") t) _ _ _
     (word_tells w (codes "ITEMSKIP") t x e) (word_tells w (codes "PROCESSBREAK") t x e) (word_tells w (codes "PROCESSERROR") t x e)
 
@@ -61,7 +63,7 @@ variable_word t a e = and_is (is_word_kind t.kind) (is_variable (capitals t.piec
 -- a fixed word that can't name a variable
 variable_other : (w : List ℕ) → capitals w ≡ w → is_variable w ≡ false → (t : Lexeme) (a : List ℕ) → variable t ≡ Some a → is_word w t ≡ false
 variable_other w capital none t a e = false_from_ne_true (is_word w t) (λ is.
-    let same : capitals t.piece ≡ w = (when_picks (λ t. is_word_kind t.kind) (λ t. capitals t.piece) t w (capitals_of_word w capital t t.line (word_is w t is))).1 in
+    let same : capitals t.piece ≡ w = (when_picks (λ t. is_word_kind t.kind) (λ t. capitals t.piece) t w (capitals_of_word w capital t (position_of t) (word_is w t is))).1 in
     true≢false (sym (ap is_variable (sym same) ∙ (variable_word t a e).1) ∙ none))
 
 pub variable_no_word : (w : List ℕ) → capitals w ≡ w → is_variable w ≡ false → Begins (one variable) (is_word w) false
@@ -85,20 +87,20 @@ exact_variable = exact_one count variable (record { kind = kinds.Word; piece = 8
 -- a word that names a variable in capitals
 pub variable_of : (w : List ℕ) → capitals w ≡ w → is_variable w ≡ true → (t : Lexeme) → is_word w t ≡ true → variable t ≡ Some w
 variable_of w capital names t is =
-    let line : word w t ≡ Some t.line = ap (λ b. if b then Some t.line else None) is in
-    let same : capitals t.piece ≡ w = (when_picks (λ t. is_word_kind t.kind) (λ t. capitals t.piece) t w (capitals_of_word w capital t t.line line)).1 in
-    ap (λ b. if b && is_variable (capitals t.piece) then Some (capitals t.piece) else None) (word_kind w t t.line line)
+    let at : word w t ≡ Some (position_of t) = ap (λ b. if b then Some (position_of t) else None) is in
+    let same : capitals t.piece ≡ w = (when_picks (λ t. is_word_kind t.kind) (λ t. capitals t.piece) t w (capitals_of_word w capital t (position_of t) at)).1 in
+    ap (λ b. if b && is_variable (capitals t.piece) then Some (capitals t.piece) else None) (word_kind w t (position_of t) at)
     ∙ ap (λ piece. if is_variable piece then Some piece else None) same ∙ ap (λ b. if b then Some w else None) names
 
 -- Statements of one word.
 
 -- what is told of each of the three words
-module _ (p : Lexeme → Bool) (c : Bool) (skip : (t : Lexeme) (x : ℕ) → word (codes "ITEMSKIP") t ≡ Some x → p t ≡ c) (breaks : (t : Lexeme) (x : ℕ) → word (codes "PROCESSBREAK") t ≡ Some x → p t ≡ c) (fails : (t : Lexeme) (x : ℕ) → word (codes "PROCESSERROR") t ≡ Some x → p t ≡ c) where
+module _ (p : Lexeme → Bool) (c : Bool) (skip : (t : Lexeme) (x : Position) → word (codes "ITEMSKIP") t ≡ Some x → p t ≡ c) (breaks : (t : Lexeme) (x : Position) → word (codes "PROCESSBREAK") t ≡ Some x → p t ≡ c) (fails : (t : Lexeme) (x : Position) → word (codes "PROCESSERROR") t ≡ Some x → p t ≡ c) where
   leap_is : (section : Section) (t : Lexeme) (l : Line) (a b d : Bool) → (may_skip section && is_word (codes "ITEMSKIP") t) ≡ a → (may_break section && is_word (codes "PROCESSBREAK") t) ≡ b → is_word (codes "PROCESSERROR") t ≡ d
       → (if a then Some lines.Skip else if b then Some lines.Break else if d then Some lines.Error else None) ≡ Some l → p t ≡ c
-  leap_is section t l true b d ea eb ed e = skip t t.line (word_is (codes "ITEMSKIP") t (and_is (may_skip section) (is_word (codes "ITEMSKIP") t) ea).1)
-  leap_is section t l false true d ea eb ed e = breaks t t.line (word_is (codes "PROCESSBREAK") t (and_is (may_break section) (is_word (codes "PROCESSBREAK") t) eb).1)
-  leap_is section t l false false true ea eb ed e = fails t t.line (word_is (codes "PROCESSERROR") t ed)
+  leap_is section t l true b d ea eb ed e = skip t (position_of t) (word_is (codes "ITEMSKIP") t (and_is (may_skip section) (is_word (codes "ITEMSKIP") t) ea).1)
+  leap_is section t l false true d ea eb ed e = breaks t (position_of t) (word_is (codes "PROCESSBREAK") t (and_is (may_break section) (is_word (codes "PROCESSBREAK") t) eb).1)
+  leap_is section t l false false true ea eb ed e = fails t (position_of t) (word_is (codes "PROCESSERROR") t ed)
   leap_is section t l false false false ea eb ed e = cc
 
   leap_tells : (section : Section) → Begins (one (leap section)) p c

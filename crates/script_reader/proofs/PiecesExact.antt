@@ -1,6 +1,7 @@
 -- The readers of a script's pieces are exact: the words that begin its sections, and statements.
 use Rattle.std.proofs.Common.{◌≡◌, ℕ, List, [], ◌∷◌, ◌++◌, Option, Some, None, true, false, ◌&&◌, if◌then◌else◌, codes, refl, sym, ◌∙◌, ap, inl, inr, append-nil}
 use Rattle.cube_lex.specs.Lexeme.{Lexeme}
+use Rattle.cube_lex.specs.Positions.{position_of}
 use Rattle.grammar.specs.After.{many_after}
 use Rattle.grammar.specs.Grammar.{Grammar, both, done, either}
 use Rattle.grammar.specs.Tokens.{is_sign, is_word, is_any_word, capitals}
@@ -63,8 +64,8 @@ piece_begins (Some sections.Epilog) = line_any sections.Epilog
 
 heading_starts : (mark : List ℕ) (section : Section) (u : List Lexeme) (a : Piece) (rest : List Lexeme) → heading_piece mark section u a → starts_heading mark (u ++ rest) ≡ true
 heading_starts mark section u a rest h =
-    let (unit, (x, y, line, parts, (t, is, picks), (s, single, colon))) = made_is (heading mark) (λ _. pieces.Heading section) u a h in
-    let (marked, _) = when_picks (is_word mark) (λ t. t.line) t line picks in
+    let (unit, (x, y, at, parts, (t, is, picks), (s, single, colon))) = made_is (heading mark) (λ _. pieces.Heading section) u a h in
+    let (marked, _) = when_picks (is_word mark) position_of t at picks in
     ap (λ l. starts_heading mark (l ++ rest)) (parts ∙ ap (λ l. l ++ y) is ∙ ap (λ l. t ∷ l) single)
     ∙ ap (λ m. m && is_sign (codes ":") s) marked ∙ sign_tells (codes ":") (codes ":") s unit colon
 
@@ -80,7 +81,7 @@ epilog_is_free = record { branches = refl; loops = refl; puts = refl; increments
 heading_of_word : (mark : List ℕ) (section : Section) (t : Lexeme) → is_word mark t ≡ true → (v : List Lexeme) × (a : Piece) × heading_piece mark section (t ∷ v) a
 heading_of_word mark section t is =
     let colon : Lexeme = sign_of (codes ":") in
-    (colon ∷ [], pieces.Heading section, (t ∷ colon ∷ [], [], tt, refl, (t ∷ [], colon ∷ [], t.line, refl, (t, refl, ap (λ b. if b then Some t.line else None) is), (colon, refl, refl)), (refl, refl)))
+    (colon ∷ [], pieces.Heading section, (t ∷ colon ∷ [], [], tt, refl, (t ∷ [], colon ∷ [], position_of t, refl, (t, refl, ap (λ b. if b then Some (position_of t) else None) is), (colon, refl, refl)), (refl, refl)))
 
 line_of_word : (mark : List ℕ) → capitals mark ≡ mark → is_variable mark ≡ true → (section : Section) (t : Lexeme) → is_word mark t ≡ true → (v : List Lexeme) × (a : Piece) × line_piece section (t ∷ v) a
 line_of_word mark capital names section t is = let (v, l, h) = statement_of_word mark capital names section t is in (v, pieces.Statement l, (t ∷ v, [], l, sym (append-nil (t ∷ v)), h, (refl, refl)))

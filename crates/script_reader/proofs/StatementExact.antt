@@ -2,6 +2,7 @@
 use Rattle.std.proofs.Common.{◌≡◌, ℕ, List, [], ◌∷◌, ◌++◌, Some, None, true, false, ◌&&◌, if◌then◌else◌, codes, refl, ◌∙◌, ap}
 use Rattle.std.specs.Str.{str_eq_ignore_ascii_case}
 use Rattle.cube_lex.specs.Lexeme.{Lexeme}
+use Rattle.cube_lex.specs.Positions.{position_of}
 use Rattle.grammar.specs.Grammar.{Grammar, one, both, done, either, many}
 use Rattle.grammar.specs.Reading.{starts}
 use Rattle.grammar.specs.Tokens.{sign, word, is_sign, is_word, is_any_word}
@@ -66,11 +67,11 @@ condition_exact = exact_then (exact_sign count (codes "(")) (λ _. exact_before_
 zeroing_of_word : (t : Lexeme) → is_word (codes "ZEROOUT") t ≡ true → (v : List Lexeme) × (l : Line) × zeroing (t ∷ v) l
 zeroing_of_word t is =
     let (u, l, (a, b, x, parts, first, rest)) = zeroing_exact.word in
-    (b, l, (t ∷ [], b, t.line, refl, (t, refl, ap (λ c. if c then Some t.line else None) is), rest))
+    (b, l, (t ∷ [], b, position_of t, refl, (t, refl, ap (λ c. if c then Some (position_of t) else None) is), rest))
 
 pub zeroing_starts : (u : List Lexeme) (l : Line) (rest : List Lexeme) → zeroing u l → starts_pair (is_word (codes "ZEROOUT")) (is_sign (codes "(")) (u ++ rest) ≡ true
-zeroing_starts u l rest (a, b, line, parts, (t, is, picks), (c, d, x, more, (s, single, opens), h)) =
-    let (marked, _) = when_picks (is_word (codes "ZEROOUT")) (λ t. t.line) t line picks in
+zeroing_starts u l rest (a, b, at, parts, (t, is, picks), (c, d, x, more, (s, single, opens), h)) =
+    let (marked, _) = when_picks (is_word (codes "ZEROOUT")) position_of t at picks in
     ap (λ y. starts_pair (is_word (codes "ZEROOUT")) (is_sign (codes "(")) (y ++ rest)) (parts ∙ ap (λ y. y ++ b) is ∙ ap (λ y. t ∷ y) (more ∙ ap (λ y. y ++ d) single))
     ∙ ap (λ m. m && is_sign (codes "(") s) marked ∙ sign_tells (codes "(") (codes "(") s x opens
 

@@ -20,9 +20,9 @@ FromStart bytes P = (lexed : Lexed) × (fault : Option LexFault) × IsReading by
 -- said.
 abbrev pub Answers : List ℕ → Result Script ScriptFault → Type 0
 Answers bytes (Ok tree) = FromStart bytes (λ s. (c : Counted) × IsWholeText script counting s bytes tree c)
-Answers bytes (Err (faults.Syntax line)) = FromStart bytes (λ s. IsWholeSyntax script counting s bytes line)
-Answers bytes (Err (faults.UnknownFunction line)) =
-    FromStart bytes (λ s. IsWholeRefused script counting s bytes (excesses.UnknownFunction line))
-Answers bytes (Err (faults.TooDeep line)) =
-    FromStart bytes (λ s. IsWholeRefused script counting s bytes (excesses.TooDeep line))
+Answers bytes (Err (faults.Syntax at)) = FromStart bytes (λ s. IsWholeSyntax script counting s bytes at)
+Answers bytes (Err (faults.UnknownFunction at)) =
+    FromStart bytes (λ s. IsWholeRefused script counting s bytes (excesses.UnknownFunction at))
+Answers bytes (Err (faults.TooDeep at)) =
+    FromStart bytes (λ s. IsWholeRefused script counting s bytes (excesses.TooDeep at))
 Answers bytes (Err faults.Memory) = Unit {0}

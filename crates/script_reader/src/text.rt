@@ -18,10 +18,10 @@ pub fn parse(alloc: Global, text: &[u8]) -> Result<Script, ScriptFault>
     match answer_of_text(&tokens, read, &cursor) {
         Ok(script) => Ok(script),
         Err(TextFault::Memory) => Err(ScriptFault::Memory),
-        Err(TextFault::Syntax(line)) => Err(ScriptFault::Syntax(line)),
-        Err(TextFault::Refused(Excess::UnknownFunction(line))) => {
-            Err(ScriptFault::UnknownFunction(line))
+        Err(TextFault::Syntax(position)) => Err(ScriptFault::Syntax(position)),
+        Err(TextFault::Refused(Excess::UnknownFunction(position))) => {
+            Err(ScriptFault::UnknownFunction(position))
         }
-        Err(TextFault::Refused(Excess::TooDeep(line))) => Err(ScriptFault::TooDeep(line)),
+        Err(TextFault::Refused(Excess::TooDeep(position))) => Err(ScriptFault::TooDeep(position)),
     }
 }

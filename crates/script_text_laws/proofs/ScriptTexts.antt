@@ -2,6 +2,7 @@
 use Rattle.std.proofs.Common.{◌≡◌, ◌≢◌, ℕ, List, [], refl, sym, ap, subst, append-nil, Ok, Err}
 use Rattle.cube_lex.specs.Lexeme.{Lexeme}
 use Rattle.cube_lex.proofs.Unique.{reading-only}
+use Rattle.cube_lex.specs.declared.position.Position.{Position}
 use Rattle.grammar.specs.Watch.{Passes}
 use Rattle.grammar.specs.Whole.{IsWholeText, IsWholeSyntax, IsWholeRefused, HasOneAnswer}
 use Rattle.grammar.proofs.Cuts.{token_cuts}
@@ -35,8 +36,8 @@ module _ (bytes : List ℕ) where
   abbrev IsTree : Script → Counted → Type 0
   IsTree tree s = (c : Counted) × IsWholeText script counting s bytes tree c
 
-  abbrev IsLine : ℕ → Counted → Type 0
-  IsLine line s = IsWholeSyntax script counting s bytes line
+  abbrev IsPlace : Position → Counted → Type 0
+  IsPlace at s = IsWholeSyntax script counting s bytes at
 
   abbrev IsExcess : Excess → Counted → Type 0
   IsExcess excess s = IsWholeRefused script counting s bytes excess
@@ -44,43 +45,43 @@ module _ (bytes : List ℕ) where
   one_script : (x y : Script) → Answers bytes (Ok x) → Answers bytes (Ok y) → x ≡ y
   one_script x y h g = one_start {P = IsTree x} {Q = IsTree y} h g (λ s (c, k) (d, l). (one_from s).one_tree bytes x y c d k l)
 
-  one_line : (k l : ℕ) → FromStart bytes (IsLine k) → FromStart bytes (IsLine l) → k ≡ l
-  one_line k l h g = one_start {P = IsLine k} {Q = IsLine l} h g (λ s i j. (one_from s).one_line bytes k l i j)
+  one_place : (k l : Position) → FromStart bytes (IsPlace k) → FromStart bytes (IsPlace l) → k ≡ l
+  one_place k l h g = one_start {P = IsPlace k} {Q = IsPlace l} h g (λ s i j. (one_from s).one_place bytes k l i j)
 
   one_excess : (c d : Excess) → FromStart bytes (IsExcess c) → FromStart bytes (IsExcess d) → c ≡ d
   one_excess c d h g = one_start {P = IsExcess c} {Q = IsExcess d} h g (λ s i j. (one_from s).one_cause bytes c d i j)
 
-  line_or_excess : (k : ℕ) (c : Excess) → FromStart bytes (IsLine k) → FromStart bytes (IsExcess c) → ⊥
-  line_or_excess k c h g = one_start {P = IsLine k} {Q = IsExcess c} h g (λ s i j. (one_from s).one_fault bytes k c i j)
+  place_or_excess : (k : Position) (c : Excess) → FromStart bytes (IsPlace k) → FromStart bytes (IsExcess c) → ⊥
+  place_or_excess k c h g = one_start {P = IsPlace k} {Q = IsExcess c} h g (λ s i j. (one_from s).one_fault bytes k c i j)
 
-  tree_or_line : (x : Script) (k : ℕ) → FromStart bytes (IsTree x) → FromStart bytes (IsLine k) → ⊥
-  tree_or_line x k h g = one_start {P = IsTree x} {Q = IsLine k} h g (λ s (c, i) j. (one_from s).no_syntax bytes x c k i j)
+  tree_or_place : (x : Script) (k : Position) → FromStart bytes (IsTree x) → FromStart bytes (IsPlace k) → ⊥
+  tree_or_place x k h g = one_start {P = IsTree x} {Q = IsPlace k} h g (λ s (c, i) j. (one_from s).no_syntax bytes x c k i j)
 
   tree_or_excess : (x : Script) (d : Excess) → FromStart bytes (IsTree x) → FromStart bytes (IsExcess d) → ⊥
   tree_or_excess x d h g = one_start {P = IsTree x} {Q = IsExcess d} h g (λ s (c, i) j. (one_from s).no_refusal bytes x c d i j)
 
   fault_of : Excess → ScriptFault
-  fault_of (excesses.UnknownFunction line) = faults.UnknownFunction line
-  fault_of (excesses.TooDeep line) = faults.TooDeep line
+  fault_of (excesses.UnknownFunction at) = faults.UnknownFunction at
+  fault_of (excesses.TooDeep at) = faults.TooDeep at
 
   one_fault : (e f : ScriptFault) → e ≢ faults.Memory → f ≢ faults.Memory → Answers bytes (Err e) → Answers bytes (Err f) → e ≡ f
   unfolding fault_of
-  one_fault (faults.Syntax k) (faults.Syntax l) some other h g = ap (λ line. faults.Syntax line) (one_line k l h g)
-  one_fault (faults.Syntax k) (faults.UnknownFunction l) some other h g = absurd (line_or_excess k (excesses.UnknownFunction l) h g)
-  one_fault (faults.Syntax k) (faults.TooDeep l) some other h g = absurd (line_or_excess k (excesses.TooDeep l) h g)
+  one_fault (faults.Syntax k) (faults.Syntax l) some other h g = ap (λ at. faults.Syntax at) (one_place k l h g)
+  one_fault (faults.Syntax k) (faults.UnknownFunction l) some other h g = absurd (place_or_excess k (excesses.UnknownFunction l) h g)
+  one_fault (faults.Syntax k) (faults.TooDeep l) some other h g = absurd (place_or_excess k (excesses.TooDeep l) h g)
   one_fault (faults.Syntax k) faults.Memory some other h g = absurd (other refl)
-  one_fault (faults.UnknownFunction k) (faults.Syntax l) some other h g = absurd (line_or_excess l (excesses.UnknownFunction k) g h)
+  one_fault (faults.UnknownFunction k) (faults.Syntax l) some other h g = absurd (place_or_excess l (excesses.UnknownFunction k) g h)
   one_fault (faults.UnknownFunction k) (faults.UnknownFunction l) some other h g = ap fault_of (one_excess (excesses.UnknownFunction k) (excesses.UnknownFunction l) h g)
   one_fault (faults.UnknownFunction k) (faults.TooDeep l) some other h g = ap fault_of (one_excess (excesses.UnknownFunction k) (excesses.TooDeep l) h g)
   one_fault (faults.UnknownFunction k) faults.Memory some other h g = absurd (other refl)
-  one_fault (faults.TooDeep k) (faults.Syntax l) some other h g = absurd (line_or_excess l (excesses.TooDeep k) g h)
+  one_fault (faults.TooDeep k) (faults.Syntax l) some other h g = absurd (place_or_excess l (excesses.TooDeep k) g h)
   one_fault (faults.TooDeep k) (faults.UnknownFunction l) some other h g = ap fault_of (one_excess (excesses.TooDeep k) (excesses.UnknownFunction l) h g)
   one_fault (faults.TooDeep k) (faults.TooDeep l) some other h g = ap fault_of (one_excess (excesses.TooDeep k) (excesses.TooDeep l) h g)
   one_fault (faults.TooDeep k) faults.Memory some other h g = absurd (other refl)
   one_fault faults.Memory f some other h g = absurd (some refl)
 
   not_both : (x : Script) (e : ScriptFault) → e ≢ faults.Memory → Answers bytes (Ok x) → Answers bytes (Err e) → ⊥
-  not_both x (faults.Syntax k) some h g = tree_or_line x k h g
+  not_both x (faults.Syntax k) some h g = tree_or_place x k h g
   not_both x (faults.UnknownFunction k) some h g = tree_or_excess x (excesses.UnknownFunction k) h g
   not_both x (faults.TooDeep k) some h g = tree_or_excess x (excesses.TooDeep k) h g
   not_both x faults.Memory some h g = some refl

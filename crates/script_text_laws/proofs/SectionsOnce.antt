@@ -32,9 +32,9 @@ with_true true = refl
 with_true false = refl
 
 heading_starts : (mark other : List ℕ) (u : List Lexeme) (a : Unit {0}) (rest : List Lexeme) → heading mark u a → starts_heading other (u ++ rest) ≡ str_eq_ignore_ascii_case mark other
-heading_starts mark other u a rest (x, y, line, parts, (t, is, picks), (s, single, colon)) =
+heading_starts mark other u a rest (x, y, at, parts, (t, is, picks), (s, single, colon)) =
     ap (λ l. starts_heading other (l ++ rest)) (parts ∙ ap (λ l. l ++ y) is ∙ ap (λ l. t ∷ l) single)
-    ∙ ap (λ m. m && is_sign (codes ":") s) (word_tells mark other t line picks)
+    ∙ ap (λ m. m && is_sign (codes ":") s) (word_tells mark other t at picks)
     ∙ ap (λ m. str_eq_ignore_ascii_case mark other && m) (sign_tells (codes ":") (codes ":") s a colon)
     ∙ with_true (str_eq_ignore_ascii_case mark other)
 

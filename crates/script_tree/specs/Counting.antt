@@ -3,6 +3,7 @@ use Rattle.std.specs.Prelude.{ℕ, ◌+◌, ◌-◌, ◌==◌, nat_lt, Bool, not
 use Rattle.std.specs.Prelude.{List, drop, Option, Some, None, Result, Ok, Err}
 use Rattle.std.specs.List.{list_any}
 use Rattle.cube_lex.specs.Lexeme.{Lexeme}
+use Rattle.cube_lex.specs.Positions.{position_of}
 use Rattle.grammar.specs.Reading.{starts}
 use Rattle.grammar.specs.Tokens.{is_sign, is_word, is_any_word}
 use Rattle.grammar.specs.Variables.{function_words}
@@ -23,7 +24,7 @@ start ts = record { left = ts; stage = record { blocks = 0; next = 0; place = pl
 
 -- One more `(`, `IF` or `WHILE`, inside so many parentheses and blocks that are open
 abbrev pub one_more : ℕ → Lexeme → Result ℕ Excess
-one_more open_ones t = if nat_lt open_ones most_open then Ok (open_ones + 1) else Err (excesses.TooDeep t.line)
+one_more open_ones t = if nat_lt open_ones most_open then Ok (open_ones + 1) else Err (excesses.TooDeep (position_of t))
 
 -- the word is that of a function, before a `(`
 abbrev pub is_function : Lexeme → Bool
@@ -37,10 +38,11 @@ is_unknown t = is_any_word t && not (is_function t)
 -- a whole expression with one more token, which has a `(` behind it or not
 abbrev pub with_token : Bool → Limits → Lexeme → Result Limits Excess
 with_token calls l t =
-    if calls && (l.due && is_unknown t) then Err (excesses.UnknownFunction t.line) else told (scanned l t) where
+    if calls && (l.due && is_unknown t) then Err (excesses.UnknownFunction (position_of t))
+    else told (scanned l t) where
       told : Option Limits → Result Limits Excess
       told (Some more) = Ok more
-      told None = Err (excesses.TooDeep t.line)
+      told None = Err (excesses.TooDeep (position_of t))
 
 abbrev pub at_place : Stage → (Limits → ScriptTextPlace) → Result Limits Excess → Result Stage Excess
 at_place s place (Ok l) = Ok (record s { place = place l })

@@ -77,7 +77,7 @@ fn one_more(opened: u32, token: &Token<'_>) -> Result<u32, Excess>
     if opened < MAX_OPEN {
         Ok(opened + 1)
     } else {
-        Err(Excess::TooDeep(token.line))
+        Err(Excess::TooDeep(token.position()))
     }
 }
 
@@ -150,11 +150,11 @@ fn with(limits: &Limits, token: &Token<'_>, calls: bool) -> Result<Limits, Exces
     ensures { result ≡ counting.with_token calls limits.now (lexeme_of token.now) }
 {
     if calls && (limits.due && is_unknown(token)) {
-        return Err(Excess::UnknownFunction(token.line));
+        return Err(Excess::UnknownFunction(token.position()));
     }
     match limits.with(token) {
         Some(more) => Ok(more),
-        None => Err(Excess::TooDeep(token.line)),
+        None => Err(Excess::TooDeep(token.position())),
     }
 }
 

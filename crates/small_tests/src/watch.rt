@@ -1,5 +1,5 @@
-use cube_lex::{Token, text_tokens};
-use grammar::{Cursor, Scan, Stop, end, line_left, sign, sign_comes, word, word_comes};
+use cube_lex::{Position, Token, text_tokens};
+use grammar::{Cursor, Scan, Stop, end, position_left, sign, sign_comes, word, word_comes};
 
 const BLOCK: &[u8] = b"Dim ;\nn";
 
@@ -30,8 +30,8 @@ impl Scan<Cause> for AtMost {
     }
 }
 
-// `DIM ; N`, with the line of the N.
-fn block(cursor: &mut Cursor<'_, AtMost>) -> Result<u32, Stop<Cause>> {
+// `DIM ; N`, with the place of the N.
+fn block(cursor: &mut Cursor<'_, AtMost>) -> Result<Position, Stop<Cause>> {
     word(cursor, b"DIM")?;
     sign(cursor, b";")?;
     let line = word(cursor, b"N")?;
@@ -43,12 +43,13 @@ fn block(cursor: &mut Cursor<'_, AtMost>) -> Result<u32, Stop<Cause>> {
 fn a_reader_takes_a_block_or_stops(rt: HostRuntime) {
     let mut cursor = Cursor::new(text_tokens(BLOCK).left, AtMost { tokens: 3 });
     assert!(rt; word_comes(&cursor, b"DIM") && !sign_comes(&cursor, b";"));
-    assert!(rt; matches!(block(&mut cursor), Ok(2)));
+    assert!(rt; matches!(block(&mut cursor), Ok(Position { line: 2, .. })));
     let mut cursor = Cursor::new(text_tokens(b";\nn").left, AtMost { tokens: 3 });
     assert!(rt; matches!(block(&mut cursor), Err(Stop::Unexpected(2))));
     let mut cursor = Cursor::new(text_tokens(BLOCK).left, AtMost { tokens: 2 });
     assert!(rt; matches!(block(&mut cursor), Err(Stop::Refused(Cause::TooMany))));
-    let behind_word = line_left(text_tokens(BLOCK).left, 7, 2);
-    let at_end = line_left(text_tokens(BLOCK).left, 7, 0);
-    assert_eq!(rt; [behind_word, at_end], [1, 7]);
+    let end = text_tokens(BLOCK).end;
+    let behind_word = position_left(text_tokens(BLOCK).left, end, 2);
+    let at_end = position_left(text_tokens(BLOCK).left, end, 0);
+    assert_eq!(rt; [behind_word.offset, at_end.offset], [4, BLOCK.len()]);
 }

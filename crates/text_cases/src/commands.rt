@@ -23,7 +23,7 @@ pub fn user(alloc: Global, text: &[u8], before: u32) -> Result<Answer, AllocErro
 }
 
 fn add_command(alloc: Global, lines: &mut Lines, command: &UserCommand) -> Result<(), AllocError> {
-    let line = command.line;
+    let line = command.at.line;
     match &command.body {
         UserBody::Put(cell, number) => {
             let elements = names(alloc, cell.elements.as_slice())?;

@@ -55,7 +55,7 @@ fn elements(
 fn add_elements(lines: &mut Lines, block: &DimText) {
     let dimension = block.dimension();
     let name = shown(dimension.name().shown());
-    lines.add(&(name, block.head(), dimension.order()));
+    lines.add(&(name, block.head().line, dimension.order()));
     for element in 0..dimension.len() {
         add_element(lines, block, element);
     }
@@ -70,7 +70,7 @@ fn add_element(lines: &mut Lines, block: &DimText, element: u32)
 {
     let dimension = block.dimension();
     let name = shown(dimension.name_of(element).shown());
-    let (line, is_leaf) = (block.line(element), dimension.is_leaf(element));
+    let (line, is_leaf) = (block.position(element).line, dimension.is_leaf(element));
     lines.add(&(element, name, line, is_leaf, dimension.components(element)));
 }
 

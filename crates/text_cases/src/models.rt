@@ -20,26 +20,35 @@ pub fn lines(alloc: Global, text: &[u8]) -> Result<Answer, AllocError> {
 fn add_model(lines: &mut Lines, model: &ModelText) {
     lines.add(&("MODEL", model.version()));
     for dim in model.dims() {
-        lines.add(&(dim.head(), "DIM", shown(dim.dimension().name().shown())));
+        lines.add(&(
+            dim.head().line,
+            "DIM",
+            shown(dim.dimension().name().shown()),
+        ));
     }
     for cube in model.cubes() {
         add_cube(lines, cube);
     }
     for script in model.scripts() {
         let name = shown(script.name.shown());
-        lines.add(&(script.line, "SCRIPT", name, shown(script.file.as_slice())));
+        lines.add(&(
+            script.at.line,
+            "SCRIPT",
+            name,
+            shown(script.file.as_slice()),
+        ));
     }
 }
 
 fn add_cube(lines: &mut Lines, cube: &CubeText) {
     let name = shown(cube.name.shown());
-    lines.add(&(cube.line, "CUBE", name, cube.dims.as_slice()));
-    if let Some((line, file)) = &cube.rules {
-        lines.add(&(*line, "RULES", shown(file.as_slice())));
+    lines.add(&(cube.at.line, "CUBE", name, cube.dims.as_slice()));
+    if let Some((at, file)) = &cube.rules {
+        lines.add(&(at.line, "RULES", shown(file.as_slice())));
     }
-    if let Some((line, order)) = &cube.order {
+    if let Some((at, order)) = &cube.order {
         let words = order.words.as_slice().len();
-        lines.add(&(*line, "ORDER", order.version, words));
+        lines.add(&(at.line, "ORDER", order.version, words));
     }
 }
 

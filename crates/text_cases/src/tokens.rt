@@ -8,7 +8,7 @@ pub fn tokens(alloc: Global, text: &[u8]) -> Result<Answer, AllocError> {
     let mut lines = Lines::new(alloc);
     add_tokens(alloc, &mut lines, &found)?;
     let whole = cube_lex::tokens(alloc, text).err();
-    lines.add(&(fault, whole, found.end_line()));
+    lines.add(&(fault, whole, found.end().line));
     lines.answer()
 }
 

@@ -43,8 +43,8 @@ one_outline draft x y h k = outline_is x y (h.name ∙ sym k.name)
     (one_right _ (λ from a b e f. element_is a b (e.0 ∙ sym f.0) (one_right (IsResolvedPart (names_of draft.elements)) (one_part (names_of draft.elements)) from.components a.components b.components e.1 f.1)) draft.elements x.elements y.elements h.elements k.elements)
     (one_right (IsResolvedAttribute (names_of draft.elements)) (one_attribute (names_of draft.elements)) draft.attributes x.attributes y.attributes h.attributes k.attributes)
 
-text_is : (x y : Text) → x.head ≡ y.head → x.dimension ≡ y.dimension → x.lines ≡ y.lines → x ≡ y
-text_is x y e f g = ap (λ z. record { head = z; dimension = x.dimension; lines = x.lines }) e ∙ ap (λ z. record { head = y.head; dimension = z; lines = x.lines }) f ∙ ap (λ z. record { head = y.head; dimension = y.dimension; lines = z }) g
+text_is : (x y : Text) → x.head ≡ y.head → x.dimension ≡ y.dimension → x.positions ≡ y.positions → x ≡ y
+text_is x y e f g = ap (λ z. record { head = z; dimension = x.dimension; positions = x.positions }) e ∙ ap (λ z. record { head = y.head; dimension = z; positions = x.positions }) f ∙ ap (λ z. record { head = y.head; dimension = y.dimension; positions = z }) g
 
 pub one_text : (x y : Text) (p : Progress) → IsBuilt x p → IsBuilt y p → x ≡ y
-one_text x y p h k = text_is x y (h.head ∙ sym k.head) (one_outline p.draft x.dimension y.dimension h.dimension k.dimension) (h.lines ∙ sym k.lines)
+one_text x y p h k = text_is x y (h.head ∙ sym k.head) (one_outline p.draft x.dimension y.dimension h.dimension k.dimension) (h.positions ∙ sym k.positions)

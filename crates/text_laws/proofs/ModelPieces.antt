@@ -129,7 +129,7 @@ abbrev sample : Lexeme
 sample = record { kind = kinds.Text; piece = 39 ∷ 97 ∷ 39 ∷ []; start = 0; line = 0 }
 
 shown_exact : Exact free shown_text shown_text read_shown Always
-shown_exact = exact_then (exact_one unscanned (located text) sample (0, 97 ∷ []) refl) (λ n. exact_gives free (QuotedText n.0 n.1))
+shown_exact = exact_then (exact_one unscanned (located text) sample (record { offset = 0; line = 0 }, 97 ∷ []) refl) (λ n. exact_gives free (QuotedText n.0 n.1))
 
 shown_settles : Settles read_shown
 shown_settles = settles_both (settles_one _ _) (λ n. settles_gives _)

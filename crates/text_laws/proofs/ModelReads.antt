@@ -1,6 +1,7 @@
 -- The reader of a model text never uses up its turns.
 use Rattle.std.proofs.Common.{◌≡◌, ℕ, List, Some, Bool, true, false, Result, Ok, Err, codes, refl, sym, subst}
 use Rattle.cube_lex.specs.Lexeme.{Lexeme}
+use Rattle.cube_lex.specs.declared.position.Position.{Position}
 use Rattle.grammar.specs.Watch.{unscanned}
 use Rattle.grammar.specs.Reading.{Unexpected, Refused, OutOfTurns, Read, Reader, unit_of, gives, bound, take_one, let_through, checked_result, inside_result}
 use Rattle.grammar.specs.Tokens.{sign, word, name, located, is_sign, is_word}
@@ -86,10 +87,10 @@ IsBody : Given → Type 0
 IsBody g = (start : Progress) × (head_of g.current ≡ Some start)
 
 IsOpen : Given → Type 0
-IsOpen g = (line : ℕ) × (shown : List ℕ) × (g.current ≡ DimensionOpen line shown)
+IsOpen g = (place : Position) × (shown : List ℕ) × (g.current ≡ DimensionOpen place shown)
 
 IsDue : Given → Type 0
-IsDue g = (line : ℕ) × (g.current ≡ DimensionDue line)
+IsDue g = (place : Position) × (g.current ≡ DimensionDue place)
 
 body_from_settles : (s : Seen) (ts : List Lexeme) → IsBody s.given → IsSettled (read_dimension_body s ts)
 unfolding read_dimension_body IsBody
@@ -117,13 +118,13 @@ bound_leaves : {A B : Type 0} (P Q : Given → Type 0) (r : Read Lexeme Given Mo
 bound_leaves P Q (Ok x) K h k = k x.0 x.1 x.2 h
 bound_leaves P Q (Err halt) K h k = tt
 
-unless_then : (Q : Given → Type 0) (b : Bool) (line : ℕ) (cause : ModelTextCause) (parts : Parts) (current : Current) → Q (at parts current) → Then Q (unless b line cause parts current)
-unless_then Q true line cause parts current h = tt
-unless_then Q false line cause parts current h = h
+unless_then : (Q : Given → Type 0) (b : Bool) (place : Position) (cause : ModelTextCause) (parts : Parts) (current : Current) → Q (at parts current) → Then Q (unless b place cause parts current)
+unless_then Q true place cause parts current h = tt
+unless_then Q false place cause parts current h = h
 
 word_leaves : (g : Given) (ts : List Lexeme) → Leaves IsDue (gather_dimension_word g ts)
 unfolding gather_dimension_word read_dimension_word IsDue
-word_leaves g ts = made_leaves IsDue g DimensionWord (λ line. unless_then IsDue (dimensions_are_full g.parts) line causes.TooMany g.parts (DimensionDue line) (line, refl)) (take_one unscanned (word (codes "DIM")) (record {}) ts)
+word_leaves g ts = made_leaves IsDue g DimensionWord (λ place. unless_then IsDue (dimensions_are_full g.parts) place causes.TooMany g.parts (DimensionDue place) (place, refl)) (take_one unscanned (word (codes "DIM")) (record {}) ts)
 
 naming_leaves : (g : Given) (ts : List Lexeme) → IsDue g → Leaves IsOpen (gather_naming g ts)
 unfolding gather_naming read_naming IsDue IsOpen

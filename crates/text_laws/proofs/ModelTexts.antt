@@ -1,6 +1,7 @@
 -- The bytes of a model text have one answer.
 use Rattle.std.proofs.Common.{◌≡◌, ◌≢◌, ℕ, List, None, ◌⊎◌, inl, inr, refl, sym, ◌∙◌, ap, subst}
 use Rattle.cube_lex.proofs.Unique.{reading-only}
+use Rattle.cube_lex.specs.declared.position.Position.{Position}
 use Rattle.grammar.specs.Watch.{Passes}
 use Rattle.grammar.specs.Whole.{IsWholeSyntax, IsWholeRefused, HasOneAnswer}
 use Rattle.grammar.proofs.Cuts.{passes_once}
@@ -41,36 +42,36 @@ one_contents bytes x y h k =
 -- Faults.
 
 -- a fault is one of the grammar, or one that the watch refuses
-abbrev Told : List ℕ → ℕ → ModelTextCause → Type 0
-Told bytes line cause = ((cause ≡ causes.Syntax) × IsWholeSyntax model watching nothing_seen bytes line) ⊎ IsWholeRefused model watching nothing_seen bytes (record { line = line; cause = cause })
+abbrev Told : List ℕ → Position → ModelTextCause → Type 0
+Told bytes place cause = ((cause ≡ causes.Syntax) × IsWholeSyntax model watching nothing_seen bytes place) ⊎ IsWholeRefused model watching nothing_seen bytes (record { at = place; cause = cause })
 
-told : (bytes : List ℕ) (line : ℕ) (cause : ModelTextCause) → cause ≢ causes.Memory → IsFault bytes line cause → Told bytes line cause
-told bytes line causes.Syntax some h = inl (refl, h)
-told bytes line causes.WrongVersion some h = inr h
-told bytes line causes.Duplicate some h = inr h
-told bytes line causes.UnknownName some h = inr h
-told bytes line causes.TooMany some h = inr h
-told bytes line (causes.Dim fault) some h = inr h
-told bytes line causes.Memory some h = absurd (some refl)
+told : (bytes : List ℕ) (place : Position) (cause : ModelTextCause) → cause ≢ causes.Memory → IsFault bytes place cause → Told bytes place cause
+told bytes place causes.Syntax some h = inl (refl, h)
+told bytes place causes.WrongVersion some h = inr h
+told bytes place causes.Duplicate some h = inr h
+told bytes place causes.UnknownName some h = inr h
+told bytes place causes.TooMany some h = inr h
+told bytes place (causes.Dim fault) some h = inr h
+told bytes place causes.Memory some h = absurd (some refl)
 
-fault_is : (e f : ModelTextFault) → e.line ≡ f.line → e.cause ≡ f.cause → e ≡ f
-fault_is e f h k = ap (λ z. record { line = z; cause = e.cause }) h ∙ ap (λ z. record { line = f.line; cause = z }) k
+fault_is : (e f : ModelTextFault) → e.at ≡ f.at → e.cause ≡ f.cause → e ≡ f
+fault_is e f h k = ap (λ z. record { at = z; cause = e.cause }) h ∙ ap (λ z. record { at = f.at; cause = z }) k
 
-one_of_told : (bytes : List ℕ) (e f : ModelTextFault) → Told bytes e.line e.cause → Told bytes f.line f.cause → e ≡ f
-one_of_told bytes e f (inl (h, at)) (inl (g, here)) = fault_is e f (model_has_one_answer.one_line bytes e.line f.line at here) (h ∙ sym g)
-one_of_told bytes e f (inl (h, at)) (inr g) = absurd (model_has_one_answer.one_fault bytes e.line f at g)
-one_of_told bytes e f (inr h) (inl (g, here)) = absurd (model_has_one_answer.one_fault bytes f.line e here h)
+one_of_told : (bytes : List ℕ) (e f : ModelTextFault) → Told bytes e.at e.cause → Told bytes f.at f.cause → e ≡ f
+one_of_told bytes e f (inl (h, at)) (inl (g, here)) = fault_is e f (model_has_one_answer.one_place bytes e.at f.at at here) (h ∙ sym g)
+one_of_told bytes e f (inl (h, at)) (inr g) = absurd (model_has_one_answer.one_fault bytes e.at f at g)
+one_of_told bytes e f (inr h) (inl (g, here)) = absurd (model_has_one_answer.one_fault bytes f.at e here h)
 one_of_told bytes e f (inr h) (inr g) = model_has_one_answer.one_cause bytes e f h g
 
-none_told : (bytes : List ℕ) (x : Contents) (e : ModelTextFault) → IsModelText bytes x → Told bytes e.line e.cause → ⊥
-none_told bytes x e h (inl (_, at)) = model_has_one_answer.no_syntax bytes tt h.seen e.line h.text at
+none_told : (bytes : List ℕ) (x : Contents) (e : ModelTextFault) → IsModelText bytes x → Told bytes e.at e.cause → ⊥
+none_told bytes x e h (inl (_, at)) = model_has_one_answer.no_syntax bytes tt h.seen e.at h.text at
 none_told bytes x e h (inr g) = model_has_one_answer.no_refusal bytes tt h.seen e h.text g
 
-pub one_model_fault : (bytes : List ℕ) (e f : ModelTextFault) → e.cause ≢ causes.Memory → f.cause ≢ causes.Memory → IsFault bytes e.line e.cause → IsFault bytes f.line f.cause → e ≡ f
-one_model_fault bytes e f some other h g = one_of_told bytes e f (told bytes e.line e.cause some h) (told bytes f.line f.cause other g)
+pub one_model_fault : (bytes : List ℕ) (e f : ModelTextFault) → e.cause ≢ causes.Memory → f.cause ≢ causes.Memory → IsFault bytes e.at e.cause → IsFault bytes f.at f.cause → e ≡ f
+one_model_fault bytes e f some other h g = one_of_told bytes e f (told bytes e.at e.cause some h) (told bytes f.at f.cause other g)
 
-pub no_model_fault : (bytes : List ℕ) (x : Contents) (e : ModelTextFault) → e.cause ≢ causes.Memory → IsModelText bytes x → IsFault bytes e.line e.cause → ⊥
-no_model_fault bytes x e some h g = none_told bytes x e h (told bytes e.line e.cause some g)
+pub no_model_fault : (bytes : List ℕ) (x : Contents) (e : ModelTextFault) → e.cause ≢ causes.Memory → IsModelText bytes x → IsFault bytes e.at e.cause → ⊥
+no_model_fault bytes x e some h g = none_told bytes x e h (told bytes e.at e.cause some g)
 
 pub model_texts : (bytes : List ℕ) → OneModelAnswer bytes
 model_texts bytes = record { one_contents = one_contents bytes; one_fault = one_model_fault bytes; not_both = no_model_fault bytes }

@@ -21,17 +21,17 @@ module _ (bytes : List ℕ) (before : ℕ) where
   one = user_has_one_answer before
 
   pub one_user_fault : (e f : UserFault) → e ≢ faults.Memory → f ≢ faults.Memory → IsUserFault bytes before e → IsUserFault bytes before f → e ≡ f
-  one_user_fault (faults.Syntax k) (faults.Syntax l) some other h g = ap (λ line. faults.Syntax line) (one.one_line bytes k l h g)
-  one_user_fault (faults.Syntax k) (faults.TooMany l) some other h g = absurd (one.one_fault bytes k (record { line = l }) h g)
+  one_user_fault (faults.Syntax k) (faults.Syntax l) some other h g = ap (λ place. faults.Syntax place) (one.one_place bytes k l h g)
+  one_user_fault (faults.Syntax k) (faults.TooMany l) some other h g = absurd (one.one_fault bytes k (record { at = l }) h g)
   one_user_fault (faults.Syntax k) faults.Memory some other h g = absurd (other refl)
-  one_user_fault (faults.TooMany k) (faults.Syntax l) some other h g = absurd (one.one_fault bytes l (record { line = k }) g h)
-  one_user_fault (faults.TooMany k) (faults.TooMany l) some other h g = ap (λ (c : TooMany). faults.TooMany c.line) (one.one_cause bytes (record { line = k }) (record { line = l }) h g)
+  one_user_fault (faults.TooMany k) (faults.Syntax l) some other h g = absurd (one.one_fault bytes l (record { at = k }) g h)
+  one_user_fault (faults.TooMany k) (faults.TooMany l) some other h g = ap (λ (c : TooMany). faults.TooMany c.at) (one.one_cause bytes (record { at = k }) (record { at = l }) h g)
   one_user_fault (faults.TooMany k) faults.Memory some other h g = absurd (other refl)
   one_user_fault faults.Memory f some other h g = absurd (some refl)
 
   pub no_user_fault : (x : List UserCommand) (e : UserFault) → e ≢ faults.Memory → AreCommands bytes before x → IsUserFault bytes before e → ⊥
   no_user_fault x (faults.Syntax k) some (r, h) g = one.no_syntax bytes x r k h g
-  no_user_fault x (faults.TooMany k) some (r, h) g = one.no_refusal bytes x r (record { line = k }) h g
+  no_user_fault x (faults.TooMany k) some (r, h) g = one.no_refusal bytes x r (record { at = k }) h g
   no_user_fault x faults.Memory some h g = some refl
 
   pub user_texts : OneUserAnswer bytes before

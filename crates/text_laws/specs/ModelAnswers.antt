@@ -9,6 +9,6 @@ use Rattle.model_text.specs.declared.fault.ModelTextCause.TheVariants as causes
 pub record OneModelAnswer (bytes : List ℕ) : Type 0 where
   pub one_contents : (x y : Contents) → IsModelText bytes x → IsModelText bytes y → x ≡ y
   pub one_fault : (e f : ModelTextFault) → e.cause ≢ causes.Memory → f.cause ≢ causes.Memory
-      → IsFault bytes e.line e.cause → IsFault bytes f.line f.cause → e ≡ f
+      → IsFault bytes e.at e.cause → IsFault bytes f.at f.cause → e ≡ f
   pub not_both : (x : Contents) (e : ModelTextFault) → e.cause ≢ causes.Memory
-      → IsModelText bytes x → IsFault bytes e.line e.cause → ⊥
+      → IsModelText bytes x → IsFault bytes e.at e.cause → ⊥

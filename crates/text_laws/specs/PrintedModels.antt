@@ -7,7 +7,7 @@ use Rattle.model_text.specs.Printed.{AreSameContents, IsPrinted}
 use Rattle.model_text.specs.declared.fault.ModelTextFault.{ModelTextFault}
 use Rattle.model_text.specs.declared.fault.ModelTextCause.TheVariants as causes
 
--- these contents are answered, but for lines; out of memory may always come
+-- these contents are answered, but for places; out of memory may always come
 abbrev pub IsReadAs : Contents → Result Contents ModelTextFault → Type 0
 IsReadAs contents (Ok again) = AreSameContents contents again
 IsReadAs contents (Err fault) = fault.cause ≡ causes.Memory

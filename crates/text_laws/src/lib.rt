@@ -23,7 +23,7 @@ pub fn model_texts_have_one_answer()
     ensures { (bytes : List ℕ) → OneModelAnswer bytes }
 {}
 
-/// What `model_text::print` adds, of at most 2^30 bytes, is read as equal contents, but for lines.
+/// What `model_text::print` adds, of at most 2^30 bytes, is read as equal contents, but for places.
 pub fn printed_models_read_back()
     ensures { (contents : Contents) (old new bytes : List ℕ) → ReadsBack contents old new bytes }
 {}

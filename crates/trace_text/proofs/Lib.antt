@@ -1,5 +1,4 @@
 pub mod Ends
-pub mod NameFacts
 pub mod Plain
 pub mod PlainLines
 pub mod ReplyFacts

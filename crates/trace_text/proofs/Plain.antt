@@ -4,24 +4,12 @@ use Rattle.std.specs.Fmt.{digits, digits_onto, digit_glyph, signed_decimal}
 use Rattle.std.specs.Int.{is_negative}
 use Rattle.std.specs.List.{list_all, flat_map, join_with_byte, slice_split, onto_first}
 use Rattle.std.proofs.lemmas.Bool.{and_parts, eqb-true}
+use Rattle.cell_names.proofs.Plain.{lacks, lacks-append, lacks-cons}
 use Rattle.cube_fixed.specs.declared.value.Value.{Value}
 use Rattle.cube_fixed.specs.declared.value.Value.TheVariants.{Num, Over}
 use Rattle.cube_fixed.specs.Range.{unit}
 use Rattle.cube_fixed.specs.Text.{printed, fraction_text, without_zeros_at_end, onto_trimmed, digits_in}
 use Rattle.dim_name.specs.Bytes.{newline, tab}
-
--- whether a text doesn't hold this byte
-abbrev pub lacks : ℕ → List ℕ → Bool
-lacks c text = list_all (λ byte. not (byte == c)) text
-
-pub lacks-cons : (c d : ℕ) (a : List ℕ) → not (d == c) ≡ true → lacks c a ≡ true → lacks c (d ∷ a) ≡ true
-lacks-cons c d a one all = rw (one) all
-
-pub lacks-append : (c : ℕ) (a b : List ℕ) → lacks c a ≡ true → lacks c b ≡ true → lacks c (a ++ b) ≡ true
-lacks-append c [] b la lb = lb
-lacks-append c (d ∷ a) b la lb =
-    let parts = and_parts (not (d == c)) (lacks c a) la in
-    lacks-cons c d (a ++ b) parts.0 (lacks-append c a b parts.1 lb)
 
 other_byte : (d c : ℕ) → c < d → not (d == c) ≡ true
 other_byte d c less = by (d == c) refl

@@ -1,65 +1,24 @@
 -- The lines of a trace are lines, where no name has a line end.
-use Rattle.std.proofs.Common.{◌≡◌, ◌∙◌, ℕ, suc, Bool, true, false, not, cond, ◌==◌, if◌then◌else◌, List, [], ◌∷◌, ◌++◌, map, length, get_or, codes, decimal, refl, ap, sym, arith}
+use Rattle.std.proofs.Common.{◌≡◌, ◌∙◌, ℕ, suc, Bool, true, false, ◌==◌, if◌then◌else◌, List, [], ◌∷◌, ◌++◌, map, length, get_or, codes, decimal, refl, ap, sym, arith}
 use Rattle.std.specs.Fmt.{signed_decimal}
 use Rattle.std.specs.List.{list_all, flat_map, slice_split}
-use Rattle.std.proofs.lemmas.Bool.{and_parts, and_from}
+use Rattle.std.proofs.lemmas.Bool.{and_from}
 use Rattle.std.proofs.lemmas.List.{length-map}
+use Rattle.cell_names.specs.CellNames.{cube_name, dimension_name, element_names, one_line}
+use Rattle.cell_names.proofs.Plain.{cube_plain, dimension_plain, elements_plain, lacks, lacks-append, one_line_plain}
 use Rattle.cell_store.specs.declared.entry.Entry.{Entry}
 use Rattle.cube_fixed.specs.declared.value.Value.{Value}
 use Rattle.cube_fixed.specs.Text.{printed}
-use Rattle.cube_lex.specs.Bytes.{is_quote}
-use Rattle.cube_lex.specs.Quoted.{doubled, quoted}
-use Rattle.cube_space.specs.Cells.{cube_of, elements_of, is_leaf_cell}
-use Rattle.cube_space.specs.Layout.{Layout, axes, cube_names}
-use Rattle.dim_core.specs.Outline.{Outline, name_of}
+use Rattle.cube_space.specs.Cells.{cube_of, is_leaf_cell}
+use Rattle.cube_space.specs.Layout.{Layout}
 use Rattle.dim_name.specs.Bytes.{newline}
 use Rattle.rule_model.specs.BoundModel.{BoundModel}
 use Rattle.cell_trace.specs.declared.line.Line.{Line}
 use Rattle.cell_trace.specs.declared.line.Line.TheVariants as lines
-use Rattle.trace_text.specs.Inside.Names.{quoted_names}
 use Rattle.trace_text.specs.TextLaws.{HasTheLinesItSays}
 use Rattle.cell_trace.specs.Trace.{scene_of, trace_lines}
-use Rattle.trace_text.specs.TraceText.{cube_name, dimension_name, element_names, fields_of, one_line, head_fields, joined, listed, quoted_name, reply_text, trace_text}
-use Rattle.trace_text.proofs.Plain.{cut_lines, decimal_lacks, joined_plain, lacks, lacks-append, lacks-cons, led, printed_plain, signed_plain}
-
--- ---- names
-
-one_line_plain : (name : List ℕ) → lacks newline (one_line name) ≡ true
-one_line_plain [] = refl
-one_line_plain (byte ∷ name) = by (not (byte == newline)) refl (one_line_plain name)
-  where
-    by : (t : Bool) → not (byte == newline) ≡ t → lacks newline (one_line name) ≡ true → lacks newline (cond t (byte ∷ one_line name) (one_line name)) ≡ true
-    by true one rest = lacks-cons newline byte (one_line name) one rest
-    by false one rest = rest
-
-doubled_plain : (name : List ℕ) → lacks newline name ≡ true → lacks newline (doubled name) ≡ true
-doubled_plain [] plain = refl
-doubled_plain (b ∷ name) plain =
-    let parts = and_parts (not (b == newline)) (lacks newline name) plain in
-    lacks-append newline (if is_quote b then b ∷ b ∷ [] else b ∷ []) (doubled name) (by (is_quote b) parts.0) (doubled_plain name parts.1)
-  where
-    by : (q : Bool) → not (b == newline) ≡ true → lacks newline (if q then b ∷ b ∷ [] else b ∷ []) ≡ true
-    by true other = lacks-cons newline b (b ∷ []) other (lacks-cons newline b [] other refl)
-    by false other = lacks-cons newline b [] other refl
-
-quoted_plain : (name : List ℕ) → lacks newline name ≡ true → lacks newline (quoted name) ≡ true
-quoted_plain name plain = lacks-append newline (39 ∷ doubled name) (39 ∷ []) (doubled_plain name plain) refl
-
-name_plain : (name : List ℕ) → lacks newline (quoted_name name) ≡ true
-name_plain name = quoted_plain (one_line name) (one_line_plain name)
-
-quoted_names_plain : (D : List Outline) (E : List ℕ) → list_all (lacks newline) (quoted_names D E) ≡ true
-quoted_names_plain [] E = refl
-quoted_names_plain (d ∷ D) [] = refl
-quoted_names_plain (d ∷ D) (e ∷ E) =
-    and_from (lacks newline (quoted_name (name_of d e))) (list_all (lacks newline) (quoted_names D E)) (name_plain (name_of d e)) (quoted_names_plain D E)
-
-listed_plain : (names : List (List ℕ)) → list_all (lacks newline) names ≡ true → lacks newline (listed names) ≡ true
-listed_plain [] all = refl
-listed_plain (name ∷ []) all = (and_parts (lacks newline name) true all).0
-listed_plain (name ∷ next ∷ names) all =
-    let parts = and_parts (lacks newline name) (list_all (lacks newline) (next ∷ names)) all in
-    lacks-append newline (name ++ codes ", ") (listed (next ∷ names)) (lacks-append newline name (codes ", ") parts.0 refl) (listed_plain (next ∷ names) parts.1)
+use Rattle.trace_text.specs.TraceText.{fields_of, head_fields, joined, reply_text, trace_text}
+use Rattle.trace_text.proofs.Plain.{cut_lines, decimal_lacks, joined_plain, led, printed_plain, signed_plain}
 
 -- ---- lines
 
@@ -81,20 +40,9 @@ one_of true x y p q = p
 one_of false x y p q = q
 
 module _ (space : Layout) where
-  cube_plain : (cell : ℕ) → lacks newline (cube_name space cell) ≡ true
-  cube_plain cell = name_plain (get_or (cube_names space) (cube_of space cell) [])
-
-  elements_plain : (cell : ℕ) → lacks newline (element_names space cell) ≡ true
-  elements_plain cell =
-      listed_plain (quoted_names (axes space (cube_of space cell)) (elements_of space cell))
-      (quoted_names_plain (axes space (cube_of space cell)) (elements_of space cell))
-
-  dimension_plain : (cell dim : ℕ) → lacks newline (dimension_name space cell dim) ≡ true
-  dimension_plain cell dim = name_plain (get_or (map (λ (axis : Outline). axis.name) (axes space (cube_of space cell))) dim [])
-
   of_cell : (cell : ℕ) (fields : List (List ℕ)) → AllPlain fields → AllPlain (cube_name space cell ∷ element_names space cell ∷ fields)
   of_cell cell fields rest =
-      onto (cube_name space cell) (element_names space cell ∷ fields) (cube_plain cell) (onto (element_names space cell) fields (elements_plain cell) rest)
+      onto (cube_name space cell) (element_names space cell ∷ fields) (cube_plain space cell) (onto (element_names space cell) fields (elements_plain space cell) rest)
 
   of_value : (value : Value) → AllPlain (printed value ∷ [])
   of_value value = onto (printed value) [] (printed_plain value) refl
@@ -117,7 +65,7 @@ module _ (space : Layout) where
     fields_plain (lines.ReadsNothing number) =
         onto (codes "reads") (decimal number ∷ codes "nothing" ∷ codes "0" ∷ []) refl (onto (decimal number) (codes "nothing" ∷ codes "0" ∷ []) (number_plain number) refl)
     fields_plain (lines.Children dim) =
-        onto (codes "children") (dimension_name space cell dim ∷ []) refl (onto (dimension_name space cell dim) [] (dimension_plain cell dim) refl)
+        onto (codes "children") (dimension_name space cell dim ∷ []) refl (onto (dimension_name space cell dim) [] (dimension_plain space cell dim) refl)
     fields_plain (lines.Input stored) =
         let kind = if stored then codes "stored" else codes "empty" in
         onto (codes "input") (kind ∷ []) refl (onto kind [] (one_of stored (codes "stored") (codes "empty") refl refl) refl)

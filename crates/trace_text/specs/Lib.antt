@@ -1,3 +1,2 @@
 pub mod TraceText
-pub mod Inside
 pub mod TextLaws

@@ -1,15 +1,13 @@
 -- The text of a trace: fields with a tab between each two, names in quotes as the model defines them.
 use Rattle.std.specs.Prelude.{ℕ, suc, if◌then◌else◌, List, [], ◌∷◌, ◌++◌, map, length, codes, decimal, slice_index_or}
-use Rattle.std.specs.Prelude.{◌==◌, filter, not}
 use Rattle.std.specs.Fmt.{signed_decimal}
-use Rattle.std.specs.List.{flat_map, join_with_byte, zip}
+use Rattle.std.specs.List.{flat_map, join_with_byte}
 use Rattle.cube_fixed.specs.declared.value.Value.{Value}
 use Rattle.cube_fixed.specs.Text.{printed}
-use Rattle.cube_lex.specs.Quoted.{quoted}
-use Rattle.cube_space.specs.Cells.{cube_of, elements_of, is_leaf_cell}
-use Rattle.cube_space.specs.Layout.{Layout, axes, cube_names}
-use Rattle.dim_core.specs.Outline.{name_of}
+use Rattle.cube_space.specs.Cells.{cube_of, is_leaf_cell}
+use Rattle.cube_space.specs.Layout.{Layout}
 use Rattle.dim_name.specs.Bytes.{newline, tab}
+use Rattle.cell_names.specs.CellNames.{cube_name, dimension_name, element_names, one_line}
 use Rattle.cell_store.specs.declared.entry.Entry.{Entry}
 use Rattle.rule_model.specs.BoundModel.{BoundModel}
 use Rattle.cell_trace.specs.Trace.{scene_of, trace_lines}
@@ -19,34 +17,6 @@ use Rattle.cell_trace.specs.declared.line.Line.TheVariants as lines
 -- fields with a tab between each two
 abbrev pub joined : List (List ℕ) → List ℕ
 joined fields = join_with_byte tab fields
-
--- texts with a comma and a space between each two
-abbrev pub listed : List (List ℕ) → List ℕ
-listed [] = []
-listed (first ∷ []) = first
-listed (first ∷ second ∷ rest) = first ++ codes ", " ++ listed (second ∷ rest)
-
--- a text in one line: a line end in it isn't printed
-abbrev pub one_line : List ℕ → List ℕ
-one_line text = filter (λ byte. not (byte == newline)) text
-
--- a name as it is printed
-abbrev pub quoted_name : List ℕ → List ℕ
-quoted_name name = quoted (one_line name)
-
--- the elements of a cell
-abbrev pub element_names : Layout → ℕ → List ℕ
-element_names space cell =
-    listed (map (λ pair. quoted_name (name_of pair.0 pair.1))
-    (zip (axes space (cube_of space cell)) (elements_of space cell)))
-
-abbrev pub cube_name : Layout → ℕ → List ℕ
-cube_name space cell = quoted_name (slice_index_or (cube_names space) (cube_of space cell) [])
-
--- the name of a dimension of the cell's cube
-abbrev pub dimension_name : Layout → ℕ → ℕ → List ℕ
-dimension_name space cell dim =
-    quoted_name (slice_index_or (map (λ axis. axis.name) (axes space (cube_of space cell))) dim [])
 
 -- the fields of a line of the trace of a cell, where these are the names of the rule files, one of each cube
 abbrev pub fields_of : Layout → List (List ℕ) → ℕ → Line → List (List ℕ)

@@ -1,13 +1,14 @@
 ghost use Rattle.std.specs.Prelude.{◌≡◌, ◌++◌, ◌∷◌, ℕ, List, [], All, IfOk, OnOk, codes, decimal, slice_index_or};
 ghost use Rattle.std.specs.Prelude.{if◌then◌else◌};
+ghost use Rattle.cell_names.specs.CellNames.{cube_name, element_names, one_line};
 ghost use Rattle.cell_trace.specs.Lines.{IsLineOf};
-ghost use Rattle.trace_text.specs.TraceText.{fields_of, head_fields, joined, one_line, trace_text};
+ghost use Rattle.trace_text.specs.TraceText.{fields_of, head_fields, joined, trace_text};
 ghost use Rattle.cell_trace.specs.declared.line.Line.TheVariants as lines;
 ghost use Rattle.cube_space.specs.Cells.{IsCell, cube_of, is_leaf_cell};
 ghost use Rattle.cube_space.specs.Layout.{Layout};
 ghost use Rattle.dim_name.specs.Bytes.{newline, tab};
 
-use crate::names::{write_cell, write_dimension};
+use cell_names::{write_cell_cube, write_cell_elements, write_dimension, write_file_name};
 use cell_trace::{Line, Part};
 use cube_fixed::{Value, print};
 use cube_space::MAX_DIMENSIONS;
@@ -28,16 +29,15 @@ fn write_numbered(
     out.extend_from_slice(number.to_string(alloc)?.as_bytes())
 }
 
-// Writes the name of a file in one line.
-fn write_file_name(name: &[u8], out: &mut Vec<u8>) -> Result<(), AllocError>
-    ensures { OnOk result (out.new.items ≡ out.old.items ++ one_line name.now) }
+// Writes two fields of a cell: its cube, and its elements.
+fn write_cell(model: &Model, cell: u64, out: &mut Vec<u8>) -> Result<(), AllocError>
+    requires { IsCell model.now.space cell }
+    ensures { OnOk result (out.new.items ≡ out.old.items
+        ++ (cube_name model.now.space cell ++ tab ∷ element_names model.now.space cell)) }
 {
-    for byte in name {
-        if *byte != b'\n' {
-            out.push(*byte)?;
-        }
-    }
-    Ok(())
+    write_cell_cube(model, cell, out)?;
+    out.push(b'\t')?;
+    write_cell_elements(model, cell, out)
 }
 
 // Writes the name of the rule file of the cell's cube.

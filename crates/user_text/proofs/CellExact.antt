@@ -28,18 +28,18 @@ amount_exact = exact_before_next (minus_exact count)
 
 pub put_exact : Exact counting put put read_put Always
 unfolding read_put
-put_exact = exact_then (exact_word count (codes "PUT")) (λ line. exact_then cell_exact (λ target. exact_then (exact_sign count (codes "=")) (λ _. exact_then amount_exact
-    (λ value. exact_then (exact_sign count (codes ";")) (λ _. exact_gives counting (record { line = line; body = bodies.Put target value }))))))
+put_exact = exact_then (exact_word count (codes "PUT")) (λ place. exact_then cell_exact (λ target. exact_then (exact_sign count (codes "=")) (λ _. exact_then amount_exact
+    (λ value. exact_then (exact_sign count (codes ";")) (λ _. exact_gives counting (record { at = place; body = bodies.Put target value }))))))
 
 pub get_exact : Exact counting get get read_get Always
 unfolding read_get
-get_exact = exact_then (exact_word count (codes "GET")) (λ line. exact_then cell_exact (λ target. exact_then (exact_sign count (codes ";"))
-    (λ _. exact_gives counting (record { line = line; body = bodies.Get target }))))
+get_exact = exact_then (exact_word count (codes "GET")) (λ place. exact_then cell_exact (λ target. exact_then (exact_sign count (codes ";"))
+    (λ _. exact_gives counting (record { at = place; body = bodies.Get target }))))
 
 pub trace_exact : Exact counting trace trace read_trace Always
 unfolding read_trace
-trace_exact = exact_then (exact_word count (codes "TRACE")) (λ line. exact_then cell_exact (λ target. exact_then (exact_sign count (codes ";"))
-    (λ _. exact_gives counting (record { line = line; body = bodies.Trace target }))))
+trace_exact = exact_then (exact_word count (codes "TRACE")) (λ place. exact_then cell_exact (λ target. exact_then (exact_sign count (codes ";"))
+    (λ _. exact_gives counting (record { at = place; body = bodies.Trace target }))))
 
 -- `;` at a command's end
 abbrev pub closed : UserCommand → Grammar Lexeme UserCommand

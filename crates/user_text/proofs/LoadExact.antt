@@ -2,6 +2,7 @@
 use Rattle.std.proofs.Common.{ℕ, List, [], ◌∷◌, ◌++◌, Option, Some, None, true, false, codes, refl, ◌≡◌, ◌∙◌, ap, subst}
 use Rattle.std.specs.Str.{str_eq_ignore_ascii_case}
 use Rattle.cube_lex.specs.Lexeme.{Lexeme}
+use Rattle.cube_lex.specs.declared.position.Position.{Position}
 use Rattle.grammar.specs.Grammar.{Grammar, one, both, done}
 use Rattle.grammar.specs.Reading.{both_of, gives, starts}
 use Rattle.grammar.specs.Tokens.{word, whole, is_sign, is_word, is_text}
@@ -142,37 +143,37 @@ params_exact = exact_choose {S = Not (is_sign (codes ","))} {S' = Always} {S'' =
     (λ u a rest nothing stops. (ap (λ x. starts (is_word (codes "WITH")) (x ++ rest)) nothing.0 ∙ stops.with_word, tt))
 
 -- what stands behind the source
-abbrev load_rest : ℕ → List ℕ → Source → Grammar Lexeme UserCommand
-load_rest line script records = both with_params (λ variables. closed (loading line script records variables))
+abbrev load_rest : Position → List ℕ → Source → Grammar Lexeme UserCommand
+load_rest place script records = both with_params (λ variables. closed (loading place script records variables))
 
-rest_no_from : (line : ℕ) (script : List ℕ) (records : Source) → Begins (load_rest line script records) (is_word (codes "FROM")) false
-rest_no_from line script records = begins_optional (begins_both (word_begins (codes "WITH") (codes "FROM"))) (λ variables. closed_word (loading line script records variables) (codes "FROM"))
+rest_no_from : (place : Position) (script : List ℕ) (records : Source) → Begins (load_rest place script records) (is_word (codes "FROM")) false
+rest_no_from place script records = begins_optional (begins_both (word_begins (codes "WITH") (codes "FROM"))) (λ variables. closed_word (loading place script records variables) (codes "FROM"))
 
-rest_no_skip : (line : ℕ) (script : List ℕ) (records : Source) → Begins (load_rest line script records) (is_word (codes "SKIP")) false
-rest_no_skip line script records = begins_optional (begins_both (word_begins (codes "WITH") (codes "SKIP"))) (λ variables. closed_word (loading line script records variables) (codes "SKIP"))
+rest_no_skip : (place : Position) (script : List ℕ) (records : Source) → Begins (load_rest place script records) (is_word (codes "SKIP")) false
+rest_no_skip place script records = begins_optional (begins_both (word_begins (codes "WITH") (codes "SKIP"))) (λ variables. closed_word (loading place script records variables) (codes "SKIP"))
 
-rest_no_decimal : (line : ℕ) (script : List ℕ) (records : Source) → Begins (load_rest line script records) (is_word (codes "DECIMAL")) false
-rest_no_decimal line script records = begins_optional (begins_both (word_begins (codes "WITH") (codes "DECIMAL"))) (λ variables. closed_word (loading line script records variables) (codes "DECIMAL"))
+rest_no_decimal : (place : Position) (script : List ℕ) (records : Source) → Begins (load_rest place script records) (is_word (codes "DECIMAL")) false
+rest_no_decimal place script records = begins_optional (begins_both (word_begins (codes "WITH") (codes "DECIMAL"))) (λ variables. closed_word (loading place script records variables) (codes "DECIMAL"))
 
-rest_no_separator : (line : ℕ) (script : List ℕ) (records : Source) → Begins (load_rest line script records) (is_word (codes "SEPARATOR")) false
-rest_no_separator line script records = begins_optional (begins_both (word_begins (codes "WITH") (codes "SEPARATOR"))) (λ variables. closed_word (loading line script records variables) (codes "SEPARATOR"))
+rest_no_separator : (place : Position) (script : List ℕ) (records : Source) → Begins (load_rest place script records) (is_word (codes "SEPARATOR")) false
+rest_no_separator place script records = begins_optional (begins_both (word_begins (codes "WITH") (codes "SEPARATOR"))) (λ variables. closed_word (loading place script records variables) (codes "SEPARATOR"))
 
-rest_no_rejects : (line : ℕ) (script : List ℕ) (records : Source) → Begins (load_rest line script records) (is_word (codes "REJECTS")) false
-rest_no_rejects line script records = begins_optional (begins_both (word_begins (codes "WITH") (codes "REJECTS"))) (λ variables. closed_word (loading line script records variables) (codes "REJECTS"))
+rest_no_rejects : (place : Position) (script : List ℕ) (records : Source) → Begins (load_rest place script records) (is_word (codes "REJECTS")) false
+rest_no_rejects place script records = begins_optional (begins_both (word_begins (codes "WITH") (codes "REJECTS"))) (λ variables. closed_word (loading place script records variables) (codes "REJECTS"))
 
 pub load_exact : Exact counting load load read_load Always
 unfolding read_load
-load_exact = exact_then (exact_word count (codes "LOAD")) (λ line. exact_then (exact_name count) (λ script. exact_both source_exact
+load_exact = exact_then (exact_word count (codes "LOAD")) (λ place. exact_then (exact_name count) (λ script. exact_both source_exact
     (λ records. exact_both params_exact
-    (λ variables. exact_then (exact_sign count (codes ";")) (λ _. exact_gives counting (loading line script records variables)))
+    (λ variables. exact_then (exact_sign count (codes ";")) (λ _. exact_gives counting (loading place script records variables)))
     (λ variables v b rest l stops. record {
-      with_word = starts_text (closed_word (loading line script records variables) (codes "WITH")) v b rest l;
-      comma = starts_text (closed_sign (loading line script records variables) (codes ",")) v b rest l;
+      with_word = starts_text (closed_word (loading place script records variables) (codes "WITH")) v b rest l;
+      comma = starts_text (closed_sign (loading place script records variables) (codes ",")) v b rest l;
     }))
     (λ records v b rest l stops. record {
-      from = starts_text (rest_no_from line script records) v b rest l;
-      skip = starts_text (rest_no_skip line script records) v b rest l;
-      separator = starts_text (rest_no_separator line script records) v b rest l;
-      decimal = starts_text (rest_no_decimal line script records) v b rest l;
-      rejects = starts_text (rest_no_rejects line script records) v b rest l;
+      from = starts_text (rest_no_from place script records) v b rest l;
+      skip = starts_text (rest_no_skip place script records) v b rest l;
+      separator = starts_text (rest_no_separator place script records) v b rest l;
+      decimal = starts_text (rest_no_decimal place script records) v b rest l;
+      rejects = starts_text (rest_no_rejects place script records) v b rest l;
     })))

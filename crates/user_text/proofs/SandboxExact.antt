@@ -14,7 +14,7 @@ use Rattle.user_text.specs.declared.command.UserBody.TheVariants as bodies
 
 alone_exact : (called : List ℕ) (body : UserBody) → Exact counting (alone called body) (alone called body) (read_alone called body) Always
 unfolding read_alone
-alone_exact called body = exact_then (exact_word count called) (λ line. exact_then (exact_sign count (codes ";")) (λ _. exact_gives counting (record { line = line; body = body })))
+alone_exact called body = exact_then (exact_word count called) (λ place. exact_then (exact_sign count (codes ";")) (λ _. exact_gives counting (record { at = place; body = body })))
 
 -- whether a word is this one
 abbrev pub is_one : List ℕ → List ℕ → Bool

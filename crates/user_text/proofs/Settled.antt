@@ -19,11 +19,11 @@ amount_settles = settles_both (minus_settles count) (λ negative. settles_both (
 
 put_settles : Settles read_put
 unfolding read_put
-put_settles = settles_both (settles_one _ _) (λ line. settles_both cell_settles (λ target. settles_both (settles_one _ _) (λ _. settles_both amount_settles (λ value. settles_both (settles_one _ _) (λ _. settles_gives _)))))
+put_settles = settles_both (settles_one _ _) (λ place. settles_both cell_settles (λ target. settles_both (settles_one _ _) (λ _. settles_both amount_settles (λ value. settles_both (settles_one _ _) (λ _. settles_gives _)))))
 
 get_settles : Settles read_get
 unfolding read_get
-get_settles = settles_both (settles_one _ _) (λ line. settles_both cell_settles (λ target. settles_both (settles_one _ _) (λ _. settles_gives _)))
+get_settles = settles_both (settles_one _ _) (λ place. settles_both cell_settles (λ target. settles_both (settles_one _ _) (λ _. settles_gives _)))
 
 skip_settles : Settles read_skip
 unfolding read_skip
@@ -81,7 +81,7 @@ params_settles = settles_choose _ (settles_both (settles_one _ _) (λ _. settles
 
 load_settles : Settles read_load
 unfolding read_load
-load_settles = settles_both (settles_one _ _) (λ line. settles_both (settles_one _ _) (λ script. settles_both source_settles (λ records. settles_both params_settles (λ variables. settles_both (settles_one _ _) (λ _. settles_gives _)))))
+load_settles = settles_both (settles_one _ _) (λ place. settles_both (settles_one _ _) (λ script. settles_both source_settles (λ records. settles_both params_settles (λ variables. settles_both (settles_one _ _) (λ _. settles_gives _)))))
 
 elements_settle : Settles read_elements
 unfolding read_elements
@@ -113,7 +113,7 @@ nozeros_settles = settles_choose _ (settles_both (settles_one _ _) (λ _. settle
 
 view_settles : Settles read_view
 unfolding read_view
-view_settles = settles_both (settles_one _ _) (λ line. settles_both (settles_one _ _) (λ cube. settles_both (settles_one _ _) (λ _. settles_both axis_settles (λ rows. settles_both (settles_one _ _) (λ _. settles_both axis_settles
+view_settles = settles_both (settles_one _ _) (λ place. settles_both (settles_one _ _) (λ cube. settles_both (settles_one _ _) (λ _. settles_both axis_settles (λ rows. settles_both (settles_one _ _) (λ _. settles_both axis_settles
     (λ columns. settles_both points_settle (λ at. settles_both nozeros_settles (λ without_zeros. settles_both (settles_one _ _) (λ _. settles_gives _)))))))))
 
 spread_word_settles : Settles read_spread_word
@@ -122,15 +122,15 @@ spread_word_settles = settles_choose _ (settles_both (settles_one _ _) (λ _. se
 
 spread_settles : Settles read_spread
 unfolding read_spread
-spread_settles = settles_both (settles_one _ _) (λ line. settles_both cell_settles (λ target. settles_both (settles_one _ _) (λ _. settles_both amount_settles (λ value. settles_both spread_word_settles (λ how. settles_both (settles_one _ _) (λ _. settles_gives _))))))
+spread_settles = settles_both (settles_one _ _) (λ place. settles_both cell_settles (λ target. settles_both (settles_one _ _) (λ _. settles_both amount_settles (λ value. settles_both spread_word_settles (λ how. settles_both (settles_one _ _) (λ _. settles_gives _))))))
 
 trace_settles : Settles read_trace
 unfolding read_trace
-trace_settles = settles_both (settles_one _ _) (λ line. settles_both cell_settles (λ target. settles_both (settles_one _ _) (λ _. settles_gives _)))
+trace_settles = settles_both (settles_one _ _) (λ place. settles_both cell_settles (λ target. settles_both (settles_one _ _) (λ _. settles_gives _)))
 
 alone_settles : (called : List ℕ) (body : UserBody) → Settles (read_alone called body)
 unfolding read_alone
-alone_settles called body = settles_both (settles_one _ _) (λ line. settles_both (settles_one _ _) (λ _. settles_gives _))
+alone_settles called body = settles_both (settles_one _ _) (λ place. settles_both (settles_one _ _) (λ _. settles_gives _))
 
 sandboxes_settle : Settles read_of_sandboxes
 unfolding read_of_sandboxes

@@ -1,6 +1,7 @@
 -- The readers of a file's signs are exact.
 use Rattle.std.proofs.Common.{◌≡◌, ℕ, List, [], ◌∷◌, Option, Some, None, Bool, true, false, ◌++◌, inl, inr, append_assoc, codes, refl, ap, subst, ◌==◌, ◌∙◌, if◌then◌else◌}
 use Rattle.cube_lex.specs.Lexeme.{Lexeme}
+use Rattle.cube_lex.specs.Positions.{position_of}
 use Rattle.cube_lex.specs.Quoted.{unquoted}
 use Rattle.cube_lex.specs.declared.token.Kind.{Kind}
 use Rattle.cube_lex.specs.declared.token.Kind.TheVariants as kinds
@@ -35,8 +36,8 @@ no_text kinds.Sign e = cc
 
 -- a word is no quoted text
 pub word_no_text : (a : List ℕ) → Begins (one (word a)) is_text false
-word_no_text a = begins_one (word a) is_text false (λ t line e.
-    no_text t.kind (and_is (is_word_kind t.kind) (str_eq_ignore_ascii_case t.piece a) (when_picks (is_word a) (λ t. t.line) t line e).0).0)
+word_no_text a = begins_one (word a) is_text false (λ t place e.
+    no_text t.kind (and_is (is_word_kind t.kind) (str_eq_ignore_ascii_case t.piece a) (when_picks (is_word a) position_of t place e).0).0)
 
 -- `';'`
 exact_sign_text : Exact counting (one sign_text) (one sign_text) (take_one count sign_text) Always

@@ -19,5 +19,5 @@ spread_word_exact = exact_or (is_word (codes "EQUAL")) (begins_both (word_begins
 
 pub spread_exact : Exact counting spread spread read_spread Always
 unfolding read_spread
-spread_exact = exact_then (exact_word count (codes "SPREAD")) (λ line. exact_then cell_exact (λ target. exact_then (exact_sign count (codes "=")) (λ _. exact_then amount_exact
-    (λ value. exact_then spread_word_exact (λ how. exact_then (exact_sign count (codes ";")) (λ _. exact_gives counting (record { line = line; body = bodies.Spread target value how })))))))
+spread_exact = exact_then (exact_word count (codes "SPREAD")) (λ place. exact_then cell_exact (λ target. exact_then (exact_sign count (codes "=")) (λ _. exact_then amount_exact
+    (λ value. exact_then spread_word_exact (λ how. exact_then (exact_sign count (codes ";")) (λ _. exact_gives counting (record { at = place; body = bodies.Spread target value how })))))))

@@ -1,6 +1,7 @@
 -- The readers of a view are exact.
 use Rattle.std.proofs.Common.{ℕ, List, [], ◌∷◌, ◌++◌, Option, Some, None, true, false, codes, ◌∙◌, ap}
 use Rattle.cube_lex.specs.Lexeme.{Lexeme}
+use Rattle.cube_lex.specs.declared.position.Position.{Position}
 use Rattle.grammar.specs.Grammar.{Grammar, one, both, many, done}
 use Rattle.grammar.specs.Reading.{starts, both_of, gives}
 use Rattle.grammar.specs.Tokens.{sign, word, is_sign, is_word}
@@ -102,21 +103,21 @@ nozeros_exact = exact_option (is_word (codes "NOZEROS")) false (begins_both (wor
 
 -- What stands behind the axes.
 
-module _ (line : ℕ) (cube : List ℕ) (rows columns : List SetText) where
+module _ (place : Position) (cube : List ℕ) (rows columns : List SetText) where
   abbrev last : List (List ℕ × List ℕ) → Grammar Lexeme UserCommand
-  last at = both nozeros (λ without_zeros. closed (viewing line cube rows columns at without_zeros))
+  last at = both nozeros (λ without_zeros. closed (viewing place cube rows columns at without_zeros))
 
   last_sign : (at : List (List ℕ × List ℕ)) → Begins (last at) (is_sign (codes ",")) false
-  last_sign at = begins_optional (begins_both (word_no_sign (codes "NOZEROS") (codes ","))) (λ z. closed_sign (viewing line cube rows columns at z) (codes ","))
+  last_sign at = begins_optional (begins_both (word_no_sign (codes "NOZEROS") (codes ","))) (λ z. closed_sign (viewing place cube rows columns at z) (codes ","))
 
   last_colon : (at : List (List ℕ × List ℕ)) → Begins (last at) (is_sign (codes ":")) false
-  last_colon at = begins_optional (begins_both (word_no_sign (codes "NOZEROS") (codes ":"))) (λ z. closed_sign (viewing line cube rows columns at z) (codes ":"))
+  last_colon at = begins_optional (begins_both (word_no_sign (codes "NOZEROS") (codes ":"))) (λ z. closed_sign (viewing place cube rows columns at z) (codes ":"))
 
   last_at : (at : List (List ℕ × List ℕ)) → Begins (last at) (is_word (codes "AT")) false
-  last_at at = begins_optional (begins_both (word_begins (codes "NOZEROS") (codes "AT"))) (λ z. closed_word (viewing line cube rows columns at z) (codes "AT"))
+  last_at at = begins_optional (begins_both (word_begins (codes "NOZEROS") (codes "AT"))) (λ z. closed_word (viewing place cube rows columns at z) (codes "AT"))
 
   last_by : (at : List (List ℕ × List ℕ)) → Begins (last at) (is_word (codes "BY")) false
-  last_by at = begins_optional (begins_both (word_begins (codes "NOZEROS") (codes "BY"))) (λ z. closed_word (viewing line cube rows columns at z) (codes "BY"))
+  last_by at = begins_optional (begins_both (word_begins (codes "NOZEROS") (codes "BY"))) (λ z. closed_word (viewing place cube rows columns at z) (codes "BY"))
 
   abbrev tail : Grammar Lexeme UserCommand
   tail = both points last
@@ -130,33 +131,33 @@ module _ (line : ℕ) (cube : List ℕ) (rows columns : List SetText) where
   tail_by : Begins tail (is_word (codes "BY")) false
   tail_by = begins_optional (begins_both (word_begins (codes "AT") (codes "BY"))) last_by
 
-  tail_exact : Exact counting tail tail (both_of read_points (λ at. both_of read_nozeros (λ without_zeros. both_of (take_sign (codes ";")) (λ _. gives (viewing line cube rows columns at without_zeros))))) Always
+  tail_exact : Exact counting tail tail (both_of read_points (λ at. both_of read_nozeros (λ without_zeros. both_of (take_sign (codes ";")) (λ _. gives (viewing place cube rows columns at without_zeros))))) Always
   tail_exact = exact_both points_exact
       (λ at. exact_both nozeros_exact
-      (λ without_zeros. exact_then (exact_sign count (codes ";")) (λ _. exact_gives counting (viewing line cube rows columns at without_zeros)))
-      (λ without_zeros v b rest l stops. starts_text (closed_word (viewing line cube rows columns at without_zeros) (codes "NOZEROS")) v b rest l))
+      (λ without_zeros. exact_then (exact_sign count (codes ";")) (λ _. exact_gives counting (viewing place cube rows columns at without_zeros)))
+      (λ without_zeros v b rest l stops. starts_text (closed_word (viewing place cube rows columns at without_zeros) (codes "NOZEROS")) v b rest l))
       (λ at v b rest l stops. record { at_word = starts_text (last_at at) v b rest l; comma = starts_text (last_sign at) v b rest l })
 
 -- `COLUMNS axis ..`
-abbrev columns_on : ℕ → List ℕ → List SetText → Grammar Lexeme UserCommand
-columns_on line cube rows = both (one (word (codes "COLUMNS"))) (λ _. both axis (λ columns. tail line cube rows columns))
+abbrev columns_on : Position → List ℕ → List SetText → Grammar Lexeme UserCommand
+columns_on place cube rows = both (one (word (codes "COLUMNS"))) (λ _. both axis (λ columns. tail place cube rows columns))
 
-on_sign : (line : ℕ) (cube : List ℕ) (rows : List SetText) (b : List ℕ) → Begins (columns_on line cube rows) (is_sign b) false
-on_sign line cube rows b = begins_both (word_no_sign (codes "COLUMNS") b)
+on_sign : (place : Position) (cube : List ℕ) (rows : List SetText) (b : List ℕ) → Begins (columns_on place cube rows) (is_sign b) false
+on_sign place cube rows b = begins_both (word_no_sign (codes "COLUMNS") b)
 
-on_by : (line : ℕ) (cube : List ℕ) (rows : List SetText) → Begins (columns_on line cube rows) (is_word (codes "BY")) false
-on_by line cube rows = begins_both (word_begins (codes "COLUMNS") (codes "BY"))
+on_by : (place : Position) (cube : List ℕ) (rows : List SetText) → Begins (columns_on place cube rows) (is_word (codes "BY")) false
+on_by place cube rows = begins_both (word_begins (codes "COLUMNS") (codes "BY"))
 
 pub view_exact : Exact counting view view read_view Always
 unfolding read_view
-view_exact = exact_then (exact_word count (codes "VIEW")) (λ line. exact_then (exact_name count) (λ cube. exact_then (exact_word count (codes "ROWS")) (λ _. exact_both axis_exact
+view_exact = exact_then (exact_word count (codes "VIEW")) (λ place. exact_then (exact_name count) (λ cube. exact_then (exact_word count (codes "ROWS")) (λ _. exact_both axis_exact
     (λ rows. exact_then (exact_word count (codes "COLUMNS")) (λ _. exact_both axis_exact
-    (λ columns. tail_exact line cube rows columns)
+    (λ columns. tail_exact place cube rows columns)
     (λ columns v b rest l stops. record {
-      behind = record { colon = starts_text (tail_colon line cube rows columns) v b rest l; comma = starts_text (tail_comma line cube rows columns) v b rest l };
-      by = starts_text (tail_by line cube rows columns) v b rest l;
+      behind = record { colon = starts_text (tail_colon place cube rows columns) v b rest l; comma = starts_text (tail_comma place cube rows columns) v b rest l };
+      by = starts_text (tail_by place cube rows columns) v b rest l;
     })))
     (λ rows v b rest l stops. record {
-      behind = record { colon = starts_text (on_sign line cube rows (codes ":")) v b rest l; comma = starts_text (on_sign line cube rows (codes ",")) v b rest l };
-      by = starts_text (on_by line cube rows) v b rest l;
+      behind = record { colon = starts_text (on_sign place cube rows (codes ":")) v b rest l; comma = starts_text (on_sign place cube rows (codes ",")) v b rest l };
+      by = starts_text (on_by place cube rows) v b rest l;
     }))))

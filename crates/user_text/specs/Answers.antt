@@ -13,7 +13,7 @@ use Rattle.user_text.specs.declared.counted.Counted.{Counted}
 abbrev pub Answers : {X : Type 0} → (X → List UserCommand) → List ℕ → ℕ → Result X UserFault → Type 0
 Answers view bytes before (Ok commands) =
     (c : Counted) × IsWholeText user counting (counted_from before) bytes (view commands) c
-Answers view bytes before (Err (faults.Syntax line)) = IsWholeSyntax user counting (counted_from before) bytes line
-Answers view bytes before (Err (faults.TooMany line)) =
-    IsWholeRefused user counting (counted_from before) bytes (record { line = line })
+Answers view bytes before (Err (faults.Syntax at)) = IsWholeSyntax user counting (counted_from before) bytes at
+Answers view bytes before (Err (faults.TooMany at)) =
+    IsWholeRefused user counting (counted_from before) bytes (record { at = at })
 Answers view bytes before (Err faults.Memory) = Unit {0}

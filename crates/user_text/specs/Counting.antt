@@ -1,6 +1,7 @@
 -- How many commands there may be.
 use Rattle.std.specs.Prelude.{ℕ, ◌+◌, nat_lt, true, false, not, if◌then◌else◌, codes, Result, Ok, Err}
 use Rattle.cube_lex.specs.Lexeme.{Lexeme}
+use Rattle.cube_lex.specs.Positions.{position_of}
 use Rattle.grammar.specs.Tokens.{is_sign}
 use Rattle.grammar.specs.Watch.{Watch, each_token}
 use Rattle.user_text.specs.declared.fault.TooMany.{TooMany}
@@ -19,7 +20,7 @@ abbrev pub count : Counted → Lexeme → Result Counted TooMany
 count c t =
     if c.inside then Ok (record { commands = c.commands; inside = not (is_sign (codes ";") t) })
     else if nat_lt c.commands most_commands then Ok (record { commands = c.commands + 1; inside = true })
-    else Err (record { line = t.line })
+    else Err (record { at = position_of t })
 
 abbrev pub counting : Watch Lexeme Counted TooMany
 counting = each_token count

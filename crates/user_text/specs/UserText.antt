@@ -5,6 +5,7 @@ use Rattle.std.specs.Prelude.{codes, bytes_eq}
 use Rattle.std.specs.List.{list_any, find}
 use Rattle.std.specs.Option.{option_map}
 use Rattle.cube_lex.specs.Lexeme.{Lexeme}
+use Rattle.cube_lex.specs.declared.position.Position.{Position}
 use Rattle.grammar.specs.Grammar.{Grammar, done, one, either, many, ◌>>=◌, ◌>>◌}
 use Rattle.grammar.specs.After.{many_after}
 use Rattle.grammar.specs.Lists.{listed, minus, names}
@@ -44,20 +45,20 @@ amount = do
 -- "PUT" cell "=" [ "-" ] Number ";"
 abbrev pub put : Grammar Lexeme UserCommand
 put = do
-  line ← one (word (codes "PUT"))
+  place ← one (word (codes "PUT"))
   target ← cell
   one (sign (codes "="))
   value ← amount
   one (sign (codes ";"))
-  done (record { line = line; body = bodies.Put target value })
+  done (record { at = place; body = bodies.Put target value })
 
 -- "GET" cell ";"
 abbrev pub get : Grammar Lexeme UserCommand
 get = do
-  line ← one (word (codes "GET"))
+  place ← one (word (codes "GET"))
   target ← cell
   one (sign (codes ";"))
-  done (record { line = line; body = bodies.Get target })
+  done (record { at = place; body = bodies.Get target })
 
 -- [ "SKIP" whole ]
 abbrev pub skip : Grammar Lexeme ℕ
@@ -133,9 +134,9 @@ params_behind = do
 abbrev pub with_params : Grammar Lexeme (List (List ℕ × ParamText))
 with_params = either params_behind (done [])
 
-abbrev pub loading : ℕ → List ℕ → Source → List (List ℕ × ParamText) → UserCommand
-loading line script records variables = record {
-  line = line;
+abbrev pub loading : Position → List ℕ → Source → List (List ℕ × ParamText) → UserCommand
+loading place script records variables = record {
+  at = place;
   body = bodies.Load (record {
     script = script;
     file = records.0;
@@ -152,12 +153,12 @@ loading line script records variables = record {
 -- [ "WITH" param { "," param } ] ";"
 abbrev pub load : Grammar Lexeme UserCommand
 load = do
-  line ← one (word (codes "LOAD"))
+  place ← one (word (codes "LOAD"))
   script ← one name
   records ← source
   variables ← with_params
   one (sign (codes ";"))
-  done (loading line script records variables)
+  done (loading place script records variables)
 
 -- [ ":" name { "," name } ]
 abbrev pub elements : Grammar Lexeme (Option (List (List ℕ)))
@@ -193,16 +194,16 @@ points = either (do one (word (codes "AT")); listed point point) (done [])
 abbrev pub nozeros : Grammar Lexeme Bool
 nozeros = either (do one (word (codes "NOZEROS")); done true) (done false)
 
-abbrev pub viewing : ℕ → List ℕ → List SetText → List SetText → List (List ℕ × List ℕ) → Bool → UserCommand
-viewing line cube rows columns at without_zeros = record {
-  line = line;
+abbrev pub viewing : Position → List ℕ → List SetText → List SetText → List (List ℕ × List ℕ) → Bool → UserCommand
+viewing place cube rows columns at without_zeros = record {
+  at = place;
   body = bodies.View (record { cube = cube; rows = rows; columns = columns; points = at; nozeros = without_zeros });
 }
 
 -- "VIEW" name "ROWS" axis "COLUMNS" axis [ "AT" point { "," point } ] [ "NOZEROS" ] ";"
 abbrev pub view : Grammar Lexeme UserCommand
 view = do
-  line ← one (word (codes "VIEW"))
+  place ← one (word (codes "VIEW"))
   cube ← one name
   one (word (codes "ROWS"))
   rows ← axis
@@ -211,7 +212,7 @@ view = do
   at ← points
   without_zeros ← nozeros
   one (sign (codes ";"))
-  done (viewing line cube rows columns at without_zeros)
+  done (viewing place cube rows columns at without_zeros)
 
 -- "EQUAL" | "PROPORTIONAL"
 abbrev pub spread_word : Grammar Lexeme SpreadWord
@@ -222,28 +223,28 @@ spread_word = either
 -- "SPREAD" cell "=" [ "-" ] Number ( "EQUAL" | "PROPORTIONAL" ) ";"
 abbrev pub spread : Grammar Lexeme UserCommand
 spread = do
-  line ← one (word (codes "SPREAD"))
+  place ← one (word (codes "SPREAD"))
   target ← cell
   one (sign (codes "="))
   value ← amount
   how ← spread_word
   one (sign (codes ";"))
-  done (record { line = line; body = bodies.Spread target value how })
+  done (record { at = place; body = bodies.Spread target value how })
 
 -- "TRACE" cell ";"
 abbrev pub trace : Grammar Lexeme UserCommand
 trace = do
-  line ← one (word (codes "TRACE"))
+  place ← one (word (codes "TRACE"))
   target ← cell
   one (sign (codes ";"))
-  done (record { line = line; body = bodies.Trace target })
+  done (record { at = place; body = bodies.Trace target })
 
 -- a word that is a whole command
 abbrev pub alone : List ℕ → UserBody → Grammar Lexeme UserCommand
 alone called body = do
-  line ← one (word called)
+  place ← one (word called)
   one (sign (codes ";"))
-  done (record { line = line; body = body })
+  done (record { at = place; body = body })
 
 -- "SANDBOX" ";"
 abbrev pub sandbox : Grammar Lexeme UserCommand

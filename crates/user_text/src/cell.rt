@@ -48,13 +48,13 @@ pub fn amount_at(cursor: &mut Cursor<'_, Counted>) -> Result<Money, Stop<TooMany
 pub fn put_at(alloc: Global, cursor: &mut Cursor<'_, Counted>) -> Result<UserCommand, Stop<TooMany>>
     ensures { Reads (λ command. command) reading.read_put cursor.old result cursor.new }
 {
-    let line = word(cursor, b"PUT")?;
+    let position = word(cursor, b"PUT")?;
     let target = cell_at(alloc, cursor)?;
     sign(cursor, b"=")?;
     let value = amount_at(cursor)?;
     sign(cursor, b";")?;
     let body = UserBody::Put(target, value);
-    Ok(UserCommand { line, body })
+    Ok(UserCommand { at: position, body })
 }
 
 /// Reads `GET cell ;`.
@@ -62,11 +62,11 @@ pub fn put_at(alloc: Global, cursor: &mut Cursor<'_, Counted>) -> Result<UserCom
 pub fn get_at(alloc: Global, cursor: &mut Cursor<'_, Counted>) -> Result<UserCommand, Stop<TooMany>>
     ensures { Reads (λ command. command) reading.read_get cursor.old result cursor.new }
 {
-    let line = word(cursor, b"GET")?;
+    let position = word(cursor, b"GET")?;
     let target = cell_at(alloc, cursor)?;
     sign(cursor, b";")?;
     let body = UserBody::Get(target);
-    Ok(UserCommand { line, body })
+    Ok(UserCommand { at: position, body })
 }
 
 /// Reads `TRACE cell ;`.
@@ -77,9 +77,9 @@ pub fn trace_at(
 ) -> Result<UserCommand, Stop<TooMany>>
     ensures { Reads (λ command. command) reading.read_trace cursor.old result cursor.new }
 {
-    let line = word(cursor, b"TRACE")?;
+    let position = word(cursor, b"TRACE")?;
     let target = cell_at(alloc, cursor)?;
     sign(cursor, b";")?;
     let body = UserBody::Trace(target);
-    Ok(UserCommand { line, body })
+    Ok(UserCommand { at: position, body })
 }

@@ -1,5 +1,6 @@
 use crate::load_params::LoadParams;
 use cube_fixed::Money;
+use cube_lex::Position;
 use dim_name::Name;
 use lists::ListOf;
 
@@ -83,9 +84,9 @@ pub enum UserBody {
     Discard,
 }
 
-/// A command, with the line of its first word, from 1.
+/// A command, with the place of its first word.
 #[derive(Drop)]
 pub struct UserCommand {
-    pub line: u32,
+    pub at: Position,
     pub body: UserBody,
 }

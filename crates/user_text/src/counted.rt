@@ -24,7 +24,9 @@ impl Scan<TooMany> for Counted {
             self.commands += 1;
             self.inside = true;
         } else {
-            return Err(TooMany { line: token.line });
+            return Err(TooMany {
+                at: token.position(),
+            });
         }
         Ok(())
     }

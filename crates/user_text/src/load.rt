@@ -78,7 +78,7 @@ pub fn load_at(
 ) -> Result<UserCommand, Stop<TooMany>>
     ensures { Reads (λ command. command) reading.read_load cursor.old result cursor.new }
 {
-    let line = word(cursor, b"LOAD")?;
+    let position = word(cursor, b"LOAD")?;
     let script = name(alloc, cursor)?;
     let (file, skip, separator, decimal, rejects) = source_at(alloc, cursor)?;
     let params = params_at(alloc, cursor)?;
@@ -92,5 +92,5 @@ pub fn load_at(
         rejects,
         params,
     });
-    Ok(UserCommand { line, body })
+    Ok(UserCommand { at: position, body })
 }

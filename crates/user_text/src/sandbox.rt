@@ -17,9 +17,9 @@ fn alone_at(
 ) -> Result<UserCommand, Stop<TooMany>>
     ensures { Reads (λ command. command) (reading.read_alone called.now body) cursor.old result cursor.new }
 {
-    let line = word(cursor, called)?;
+    let position = word(cursor, called)?;
     sign(cursor, b";")?;
-    Ok(UserCommand { line, body })
+    Ok(UserCommand { at: position, body })
 }
 
 /// Whether a command of sandboxes comes.

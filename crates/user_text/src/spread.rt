@@ -30,12 +30,12 @@ pub fn spread_at(
 ) -> Result<UserCommand, Stop<TooMany>>
     ensures { Reads (λ command. command) reading.read_spread cursor.old result cursor.new }
 {
-    let line = word(cursor, b"SPREAD")?;
+    let position = word(cursor, b"SPREAD")?;
     let target = cell_at(alloc, cursor)?;
     sign(cursor, b"=")?;
     let amount = amount_at(cursor)?;
     let how = spread_word_at(cursor)?;
     sign(cursor, b";")?;
     let body = UserBody::Spread(target, amount, how);
-    Ok(UserCommand { line, body })
+    Ok(UserCommand { at: position, body })
 }

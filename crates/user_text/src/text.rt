@@ -96,7 +96,7 @@ pub fn parse(alloc: Global, text: &[u8], before: u32) -> Result<Vec<UserCommand>
     match answer_of_text(&tokens, read, &cursor) {
         Ok(commands) => Ok(commands),
         Err(TextFault::Memory) => Err(UserFault::Memory),
-        Err(TextFault::Syntax(line)) => Err(UserFault::Syntax(line)),
-        Err(TextFault::Refused(TooMany { line })) => Err(UserFault::TooMany(line)),
+        Err(TextFault::Syntax(position)) => Err(UserFault::Syntax(position)),
+        Err(TextFault::Refused(TooMany { at })) => Err(UserFault::TooMany(at)),
     }
 }

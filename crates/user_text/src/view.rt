@@ -141,7 +141,7 @@ pub fn view_at(
 ) -> Result<UserCommand, Stop<TooMany>>
     ensures { Reads (λ command. command) reading.read_view cursor.old result cursor.new }
 {
-    let line = word(cursor, b"VIEW")?;
+    let position = word(cursor, b"VIEW")?;
     let cube = name(alloc, cursor)?;
     word(cursor, b"ROWS")?;
     let rows = axis_at(alloc, cursor)?;
@@ -157,5 +157,5 @@ pub fn view_at(
         points,
         nozeros,
     });
-    Ok(UserCommand { line, body })
+    Ok(UserCommand { at: position, body })
 }

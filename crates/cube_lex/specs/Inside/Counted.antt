@@ -4,8 +4,8 @@ use Rattle.cube_lex.specs.Lexeme.{Lexeme}
 use Rattle.cube_lex.specs.Reading.{IsReading}
 use Rattle.cube_lex.specs.declared.text.TokenCount.{TokenCount}
 
--- it is read as so many tokens, up to this fault on this line
+-- it is read as so many tokens, up to this fault at this place
 abbrev pub Counts : List ℕ → TokenCount → Type 0
 Counts text counted =
-    (lexemes : List Lexeme) × IsReading text (record { lexemes = lexemes; end_line = counted.end_line }) counted.fault
+    (lexemes : List Lexeme) × IsReading text (record { lexemes = lexemes; end = counted.end }) counted.fault
     × (counted.tokens ≡ length lexemes)

@@ -17,10 +17,10 @@ Plain A = Reader Lexeme Unwatched Refusal A
 
 unfoldable pub read_head : Plain Statement
 read_head = do
-  line ← take_one unscanned (word (codes "DIM"))
+  at ← take_one unscanned (word (codes "DIM"))
   shown ← take_one unscanned name
   take_one unscanned (sign (codes ";"))
-  gives (Head line shown)
+  gives (Head at shown)
 
 unfoldable pub read_weight : Plain ℤ
 read_weight = choose (is_sign (codes "*"))
@@ -46,28 +46,28 @@ read_parts = choose (is_sign (codes ":"))
 
 unfoldable pub read_leaf : Plain Statement
 read_leaf = do
-  line ← take_one unscanned (word (codes "N"))
+  at ← take_one unscanned (word (codes "N"))
   shown ← take_one unscanned name
   take_one unscanned (sign (codes ";"))
-  gives (Leaf line shown)
+  gives (Leaf at shown)
 
 unfoldable pub read_consolidated : Plain Statement
 read_consolidated = do
-  line ← take_one unscanned (word (codes "C"))
+  at ← take_one unscanned (word (codes "C"))
   shown ← take_one unscanned name
   components ← read_parts
   take_one unscanned (sign (codes ";"))
-  gives (Consolidated line shown components)
+  gives (Consolidated at shown components)
 
 unfoldable pub read_attribute : Plain Statement
 read_attribute = do
-  line ← take_one unscanned (word (codes "A"))
+  at ← take_one unscanned (word (codes "A"))
   shown ← take_one unscanned name
   called ← take_one unscanned name
   take_one unscanned (sign (codes "="))
   value ← take_one unscanned text
   take_one unscanned (sign (codes ";"))
-  gives (Attribute line shown called value)
+  gives (Attribute at shown called value)
 
 unfoldable pub read_element : Plain Statement
 read_element = choose (is_word (codes "N")) read_leaf (choose (is_word (codes "C")) read_consolidated read_attribute)
@@ -78,8 +78,8 @@ is_element_word t = (is_word (codes "N") t || is_word (codes "C") t) || is_word 
 
 unfoldable pub read_end : Plain Statement
 read_end = do
-  line ← take_one unscanned (word (codes "END"))
-  gives (End line)
+  at ← take_one unscanned (word (codes "END"))
+  gives (End at)
 
 unfoldable pub read_close : Plain Statement
 read_close = do

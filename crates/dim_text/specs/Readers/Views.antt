@@ -3,6 +3,8 @@ use Rattle.std.specs.Prelude.{◌≡◌, ℕ, ◌-◌, List, length, drop, Optio
 use Rattle.dim_core.specs.declared.fault.DimFault.{DimFault}
 use Rattle.dim_core.specs.declared.fault.DimFault.TheVariants as faults
 use Rattle.cube_lex.specs.Lexeme.{Lexeme}
+use Rattle.cube_lex.specs.Positions.{position_of, nowhere}
+use Rattle.cube_lex.specs.declared.position.Position.{Position}
 use Rattle.grammar.specs.Reading.{Unexpected, Refused, Read}
 use Rattle.grammar.specs.declared.cursor.Cursor.{Cursor}
 use Rattle.grammar.specs.declared.cursor.Unwatched.{Unwatched}
@@ -13,7 +15,7 @@ use Rattle.dim_text.specs.Building.{finished}
 use Rattle.dim_text.specs.Statement.{Statement, Head, Leaf, Consolidated, Attribute}
 use Rattle.dim_text.specs.declared.element.Element.{Element}
 use Rattle.dim_text.specs.declared.element.Element.TheVariants as elements
-use Rattle.grammar.specs.Fault.{line_at}
+use Rattle.grammar.specs.Fault.{place_at}
 use Rattle.dim_text.specs.declared.fault.Refusal.{Refusal}
 use Rattle.dim_text.specs.declared.fault.DimTextFault.{DimTextFault}
 use Rattle.dim_text.specs.declared.fault.DimTextCause.TheVariants as causes
@@ -22,18 +24,18 @@ use Rattle.dim_text.specs.declared.fault.DimTextCause.TheVariants as causes
 abbrev pub ahead : Cursor Unwatched → List Lexeme
 ahead cursor = cursor.tokens
 
-abbrev pub head_view : ℕ × List ℕ → Statement
+abbrev pub head_view : Position × List ℕ → Statement
 head_view head = Head head.0 head.1
 
 abbrev pub element_view : Element → Statement
-element_view (elements.Leaf line shown) = Leaf line shown
-element_view (elements.Consolidated line shown components) = Consolidated line shown components.items
-element_view (elements.Attribute line shown called value) = Attribute line shown called value.items
+element_view (elements.Leaf at shown) = Leaf at shown
+element_view (elements.Consolidated at shown components) = Consolidated at shown components.items
+element_view (elements.Attribute at shown called value) = Attribute at shown called value.items
 
--- why a statement on this line stops the reading
-abbrev pub refused_on : ℕ → DimFault → Stop Refusal
-refused_on line faults.Memory = stops.Memory
-refused_on line fault = stops.Refused (record { line = line; fault = fault })
+-- why a statement at this place stops the reading
+abbrev pub refused_at : Position → DimFault → Stop Refusal
+refused_at at faults.Memory = stops.Memory
+refused_at at fault = stops.Refused (record { at = at; fault = fault })
 
 -- what a function built is what the statement adds, unless memory ran out
 abbrev pub Adds : {X : Type 0} → Result X (Stop Refusal) → Progress → Result Progress Refusal → Type 0
@@ -73,10 +75,10 @@ GivesEnd (Err (stops.Unexpected left)) p tokens read = read ≡ Err (Unexpected 
 GivesEnd (Err (stops.Refused cause)) p tokens read = read ≡ Err (Refused cause)
 
 -- the fault says where the reader of these tokens stopped
-abbrev pub Explains : List Lexeme → ℕ → Stop Refusal → DimTextFault → Type 0
-Explains tokens end_line stops.Memory fault = (fault.line ≡ 0) × (fault.cause ≡ causes.Memory)
-Explains tokens end_line (stops.Unexpected left) fault =
-    (fault.line ≡ line_at (λ t. t.line) end_line (drop (length tokens - left) tokens))
+abbrev pub Explains : List Lexeme → Position → Stop Refusal → DimTextFault → Type 0
+Explains tokens end stops.Memory fault = (fault.at ≡ nowhere) × (fault.cause ≡ causes.Memory)
+Explains tokens end (stops.Unexpected left) fault =
+    (fault.at ≡ place_at position_of end (drop (length tokens - left) tokens))
     × (fault.cause ≡ causes.Syntax)
-Explains tokens end_line (stops.Refused cause) fault =
-    (fault.line ≡ cause.line) × (fault.cause ≡ causes.Dim cause.fault)
+Explains tokens end (stops.Refused cause) fault =
+    (fault.at ≡ cause.at) × (fault.cause ≡ causes.Dim cause.fault)

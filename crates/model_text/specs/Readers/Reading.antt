@@ -1,6 +1,7 @@
 -- The readers of a model text, in the shape of the code.
 use Rattle.std.specs.Prelude.{ℕ, Bool, true, false, ◌&&◌, if◌then◌else◌, List, [], ◌∷◌, Option, Some, None, codes, Err}
 use Rattle.cube_lex.specs.Lexeme.{Lexeme}
+use Rattle.cube_lex.specs.declared.position.Position.{Position}
 use Rattle.grammar.specs.Watch.{unscanned}
 use Rattle.grammar.specs.Reading.{unit_of, OutOfTurns, Reader, gives, take_one, choose, starts, all_of, checked}
 use Rattle.grammar.specs.Reading.{inside_result, inside, ◌>>=◌, ◌>>◌}
@@ -34,18 +35,18 @@ read_closing = do
 
 unfoldable pub read_dimension_word : Plain Piece
 read_dimension_word = do
-  line ← take_one unscanned (word (codes "DIM"))
-  gives (DimensionWord line)
+  place ← take_one unscanned (word (codes "DIM"))
+  gives (DimensionWord place)
 
 unfoldable pub read_cube_word : Plain Piece
 read_cube_word = do
-  line ← take_one unscanned (word (codes "CUBE"))
-  gives (CubeWord line)
+  place ← take_one unscanned (word (codes "CUBE"))
+  gives (CubeWord place)
 
 unfoldable pub read_script_word : Plain Piece
 read_script_word = do
-  line ← take_one unscanned (word (codes "SCRIPT"))
-  gives (ScriptWord line)
+  place ← take_one unscanned (word (codes "SCRIPT"))
+  gives (ScriptWord place)
 
 unfoldable pub read_naming : Plain Piece
 read_naming = do
@@ -63,13 +64,13 @@ read_dimension_behind bytes = do
   n ← take_one unscanned (located name)
   gives (CubeDimension n.0 n.1)
 
-unfoldable pub read_rules : Plain (Option (ℕ × List ℕ))
+unfoldable pub read_rules : Plain (Option (Position × List ℕ))
 read_rules = choose (is_word (codes "RULES"))
     (do
-      line ← take_one unscanned (word (codes "RULES"))
+      place ← take_one unscanned (word (codes "RULES"))
       bytes ← take_one unscanned file
       take_one unscanned (sign (codes ";"))
-      gives (Some (line, bytes)))
+      gives (Some (place, bytes)))
     (gives None)
 
 unfoldable pub read_rank : Plain (List ℕ × ℕ)
@@ -152,13 +153,13 @@ unfoldable pub read_order_words : Bool → Plain (List OrderWord)
 read_order_words totals =
     choose (is_word (codes "AUTO")) (read_auto totals) (read_listed unscanned (read_position totals))
 
-unfoldable pub read_order : Bool → Plain (Option (ℕ × List OrderWord))
+unfoldable pub read_order : Bool → Plain (Option (Position × List OrderWord))
 read_order totals = choose (is_word (codes "ORDER"))
     (do
-      line ← take_one unscanned (word (codes "ORDER"))
+      place ← take_one unscanned (word (codes "ORDER"))
       list ← read_order_words totals
       take_one unscanned (sign (codes ";"))
-      gives (Some (line, list)))
+      gives (Some (place, list)))
     (gives None)
 
 unfoldable pub read_cube_end : Bool → Plain Piece

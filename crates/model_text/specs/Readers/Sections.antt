@@ -1,5 +1,6 @@
 -- What the statements of the three sections have in common.
 use Rattle.std.specs.Prelude.{ℕ, Bool, List, [], codes}
+use Rattle.cube_lex.specs.declared.position.Position.{Position}
 use Rattle.grammar.specs.Watch.{unscanned}
 use Rattle.grammar.specs.Reading.{gives, take_one, ◌>>=◌}
 use Rattle.grammar.specs.Tokens.{word}
@@ -17,15 +18,15 @@ word_of sections.Dimension = codes "DIM"
 word_of sections.Cube = codes "CUBE"
 word_of sections.Script = codes "SCRIPT"
 
-abbrev pub word_piece : Section → ℕ → Piece
-word_piece sections.Dimension line = DimensionWord line
-word_piece sections.Cube line = CubeWord line
-word_piece sections.Script line = ScriptWord line
+abbrev pub word_piece : Section → Position → Piece
+word_piece sections.Dimension place = DimensionWord place
+word_piece sections.Cube place = CubeWord place
+word_piece sections.Script place = ScriptWord place
 
 unfoldable pub read_word : Section → Plain Piece
 read_word section = do
-  line ← take_one unscanned (word (word_of section))
-  gives (word_piece section line)
+  place ← take_one unscanned (word (word_of section))
+  gives (word_piece section place)
 
 abbrev pub gather_word : Section → Gatherer
 gather_word sections.Dimension = gather_dimension_word
@@ -42,14 +43,14 @@ has sections.Dimension parts shown = has_dimension parts shown
 has sections.Cube parts shown = has_cube parts shown
 has sections.Script parts shown = has_script parts shown
 
--- behind its word, on this line
-abbrev pub due : Section → ℕ → Current
-due sections.Dimension line = DimensionDue line
-due sections.Cube line = CubeDue line
-due sections.Script line = ScriptDue line
+-- behind its word, at this place
+abbrev pub due : Section → Position → Current
+due sections.Dimension place = DimensionDue place
+due sections.Cube place = CubeDue place
+due sections.Script place = ScriptDue place
 
 -- with its name
-abbrev pub named : Section → ℕ → List ℕ → Current
-named sections.Dimension line shown = DimensionOpen line shown
-named sections.Cube line shown = CubeOpen line shown []
-named sections.Script line shown = ScriptOpen line shown
+abbrev pub named : Section → Position → List ℕ → Current
+named sections.Dimension place shown = DimensionOpen place shown
+named sections.Cube place shown = CubeOpen place shown []
+named sections.Script place shown = ScriptOpen place shown

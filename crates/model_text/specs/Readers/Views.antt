@@ -2,6 +2,8 @@
 use Rattle.std.specs.Prelude.{◌≡◌, ℕ, List, [], ◌∷◌, ◌++◌, Result, Ok, Err}
 use Rattle.std.specs.List.{AllZip}
 use Rattle.cube_lex.specs.Lexeme.{Lexeme}
+use Rattle.cube_lex.specs.Positions.{nowhere}
+use Rattle.cube_lex.specs.declared.position.Position.{Position}
 use Rattle.grammar.specs.Reading.{Unexpected, Refused, Read}
 use Rattle.grammar.specs.declared.cursor.Cursor.{Cursor}
 use Rattle.grammar.specs.declared.cursor.Unwatched.{Unwatched}
@@ -22,8 +24,8 @@ use Rattle.model_text.specs.declared.fault.ModelTextFault.{ModelTextFault}
 use Rattle.model_text.specs.declared.fault.ModelTextCause.{ModelTextCause}
 
 -- why reading stops at a refusal
-abbrev pub refused_on : ℕ → ModelTextCause → Stop ModelTextFault
-refused_on line cause = stops.Refused (record { line = line; cause = cause })
+abbrev pub refused_at : Position → ModelTextCause → Stop ModelTextFault
+refused_at place cause = stops.Refused (record { at = place; cause = cause })
 
 -- the reader stops for this reason, unless memory ran out
 abbrev pub Stops : {R A : Type 0} → Stop ModelTextFault → Read Lexeme R ModelTextFault A → Type 0
@@ -69,18 +71,20 @@ abbrev pub Collects : {X : Type 0} → Gatherer → Parts → (X → Parts)
 Collects P parts after old result new =
     GivesState (λ x. at (after x) Nothing) result (ahead new) (P (at parts Nothing) (ahead old))
 
--- a cube that has these dimensions so far names one more on this line: its number, or why it is refused
-abbrev pub GathersDimension : Parts → List ℕ → ℕ → List ℕ → Result ℕ (Stop ModelTextFault) → Type 0
-GathersDimension parts dims line shown result =
-    (word_line : ℕ) (cube : List ℕ) → Gathers (λ number. at parts (CubeOpen word_line cube (dims ++ number ∷ [])))
-    result (gathered (at parts (CubeOpen word_line cube dims)) (CubeDimension line shown))
+-- a cube that has these dimensions so far names one more at this place: its number, or why it is refused
+abbrev pub GathersDimension : Parts → List ℕ → Position → List ℕ → Result ℕ (Stop ModelTextFault) → Type 0
+GathersDimension parts dims place shown result =
+    (word_place : Position) (cube : List ℕ)
+    → Gathers (λ number. at parts (CubeOpen word_place cube (dims ++ number ∷ [])))
+    result (gathered (at parts (CubeOpen word_place cube dims)) (CubeDimension place shown))
 
 -- the same, read behind this sign
 abbrev pub ReadsDimension : Parts → List ℕ → List ℕ
     → Cursor Unwatched → Result ℕ (Stop ModelTextFault) → Cursor Unwatched → Type 0
 ReadsDimension parts dims before old result new =
-    (word_line : ℕ) (cube : List ℕ) → GivesPiece (λ number. at parts (CubeOpen word_line cube (dims ++ number ∷ [])))
-    result (ahead new) (gather (read_dimension_behind before) (at parts (CubeOpen word_line cube dims)) (ahead old))
+    (word_place : Position) (cube : List ℕ)
+    → GivesPiece (λ number. at parts (CubeOpen word_place cube (dims ++ number ∷ [])))
+    result (ahead new) (gather (read_dimension_behind before) (at parts (CubeOpen word_place cube dims)) (ahead old))
 
 -- the dimension of a block is a valid one
 abbrev pub IsValid : Text → Type 0
@@ -123,6 +127,6 @@ pub record AreSame (old new : Parts) : Type 0 where
 
 -- the fault of a whole text
 abbrev pub fault_from : TextFault ModelTextFault → ModelTextFault
-fault_from faults.Memory = record { line = 0; cause = causes.Memory }
-fault_from (faults.Syntax line) = record { line = line; cause = causes.Syntax }
+fault_from faults.Memory = record { at = nowhere; cause = causes.Memory }
+fault_from (faults.Syntax place) = record { at = place; cause = causes.Syntax }
 fault_from (faults.Refused fault) = fault

@@ -1,6 +1,7 @@
 -- The readers of formulas, in the shape of the code.
 use Rattle.std.specs.Prelude.{ℕ, Bool, List, [], ◌∷◌, Some, None, codes, bytes_eq, if◌then◌else◌}
 use Rattle.cube_lex.specs.Lexeme.{Lexeme}
+use Rattle.cube_lex.specs.declared.position.Position.{Position}
 use Rattle.grammar.specs.Reading.{Reader, gives, take_one, choose, ◌>>=◌, ◌>>◌}
 use Rattle.grammar.specs.Lists.{read_listed, read_further}
 use Rattle.grammar.specs.Tokens.{sign, word, name, text, money, capital_word, is_sign, is_text, is_number, is_any_word}
@@ -25,7 +26,7 @@ Plan A = Reader Lexeme Counted Excess A
 abbrev pub take_sign : List ℕ → Plan (Unit {0})
 take_sign bytes = take_one count (sign bytes)
 
-abbrev pub take_word : List ℕ → Plan ℕ
+abbrev pub take_word : List ℕ → Plan Position
 take_word bytes = take_one count (word bytes)
 
 abbrev pub take_name : Plan (List ℕ)

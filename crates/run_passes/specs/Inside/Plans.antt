@@ -38,11 +38,12 @@ behind_text name contents =
 
 -- ---- of a run
 
-abbrev pub ready_of : BoundModel → List (List (Act PlanCommand)) → Ready
-ready_of model commands = record { model = model; commands = commands }
+abbrev pub ready_of : Checked → List (List (Act PlanCommand)) → Ready
+ready_of checked commands =
+    record { model = checked.model; commands = commands; rule_files = checked.files.rule_files }
 
 abbrev pub behind_records : Checked → List (List (Act PlanCommand)) → Pass Ready
-behind_records checked commands = found (ready_of checked.model commands)
+behind_records checked commands = found (ready_of checked commands)
 
 abbrev pub behind_users : Checked → List (List UserCommand) → Pass Ready
 behind_users checked texts = records_pass checked.files texts >>= behind_records checked
@@ -53,8 +54,8 @@ behind_model users checked = users_pass checked.files.script_names users >>= beh
 abbrev pub served : Ready → Pass RunJob
 served ready = found (jobs.Serve ready.model ready.commands)
 
-abbrev pub explained : Ready → Pass RunJob
-explained ready = found (jobs.Explain ready.model)
+abbrev pub explained : List ℕ → Ready → Pass RunJob
+explained model ready = found (jobs.Explain ready.model model ready.rule_files)
 
 -- ---- of feeders
 

@@ -1,6 +1,7 @@
 -- The readers of expressions, in the shape of the code.
 use Rattle.std.specs.Prelude.{ℕ, List, [], ◌∷◌, Option, Some, None, codes}
 use Rattle.cube_lex.specs.Lexeme.{Lexeme}
+use Rattle.cube_lex.specs.declared.position.Position.{Position}
 use Rattle.grammar.specs.Reading.{Reader, gives, take_one, choose, ◌>>=◌, ◌>>◌}
 use Rattle.grammar.specs.Lists.{read_listed}
 use Rattle.grammar.specs.Tokens.{sign, word, text, money, is_sign, is_text, is_number}
@@ -27,7 +28,7 @@ Plan A = Reader Lexeme Counted Excess A
 abbrev pub take_sign : List ℕ → Plan (Unit {0})
 take_sign bytes = take_one count (sign bytes)
 
-abbrev pub take_word : List ℕ → Plan ℕ
+abbrev pub take_word : List ℕ → Plan Position
 take_word bytes = take_one count (word bytes)
 
 unfoldable pub read_number : Plan Expr

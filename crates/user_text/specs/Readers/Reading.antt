@@ -1,6 +1,7 @@
 -- The readers of a user's text, in the shape of the code.
 use Rattle.std.specs.Prelude.{ℕ, ℤ, Bool, true, false, ◌==◌, ◌||◌, List, [], ◌∷◌, Option, Some, None, codes}
 use Rattle.cube_lex.specs.Lexeme.{Lexeme}
+use Rattle.cube_lex.specs.declared.position.Position.{Position}
 use Rattle.grammar.specs.Reading.{Reader, gives, take_one, choose, all_of, ◌>>=◌, ◌>>◌}
 use Rattle.grammar.specs.After.{all_after}
 use Rattle.grammar.specs.Lists.{read_listed, read_minus, read_names}
@@ -29,7 +30,7 @@ Plan A = Reader Lexeme Counted TooMany A
 abbrev pub take_sign : List ℕ → Plan (Unit {0})
 take_sign bytes = take_one count (sign bytes)
 
-abbrev pub take_word : List ℕ → Plan ℕ
+abbrev pub take_word : List ℕ → Plan Position
 take_word bytes = take_one count (word bytes)
 
 abbrev pub take_name : Plan (List ℕ)
@@ -51,19 +52,19 @@ read_amount = do
 
 unfoldable pub read_put : Plan UserCommand
 read_put = do
-  line ← take_word (codes "PUT")
+  place ← take_word (codes "PUT")
   target ← read_cell
   take_sign (codes "=")
   value ← read_amount
   take_sign (codes ";")
-  gives (record { line = line; body = bodies.Put target value })
+  gives (record { at = place; body = bodies.Put target value })
 
 unfoldable pub read_get : Plan UserCommand
 read_get = do
-  line ← take_word (codes "GET")
+  place ← take_word (codes "GET")
   target ← read_cell
   take_sign (codes ";")
-  gives (record { line = line; body = bodies.Get target })
+  gives (record { at = place; body = bodies.Get target })
 
 unfoldable pub read_skip : Plan ℕ
 read_skip = choose (is_word (codes "SKIP")) (do take_word (codes "SKIP"); take_one count whole) (gives 0)
@@ -127,12 +128,12 @@ read_params = choose (is_word (codes "WITH"))
 
 unfoldable pub read_load : Plan UserCommand
 read_load = do
-  line ← take_word (codes "LOAD")
+  place ← take_word (codes "LOAD")
   script ← take_name
   records ← read_source
   variables ← read_params
   take_sign (codes ";")
-  gives (loading line script records variables)
+  gives (loading place script records variables)
 
 unfoldable pub read_elements : Plan (Option (List (List ℕ)))
 read_elements = choose (is_sign (codes ":"))
@@ -165,7 +166,7 @@ read_nozeros = choose (is_word (codes "NOZEROS")) (do take_word (codes "NOZEROS"
 
 unfoldable pub read_view : Plan UserCommand
 read_view = do
-  line ← take_word (codes "VIEW")
+  place ← take_word (codes "VIEW")
   cube ← take_name
   take_word (codes "ROWS")
   rows ← read_axis
@@ -174,7 +175,7 @@ read_view = do
   at ← read_points
   without_zeros ← read_nozeros
   take_sign (codes ";")
-  gives (viewing line cube rows columns at without_zeros)
+  gives (viewing place cube rows columns at without_zeros)
 
 unfoldable pub read_spread_word : Plan SpreadWord
 read_spread_word = choose (is_word (codes "EQUAL"))
@@ -183,26 +184,26 @@ read_spread_word = choose (is_word (codes "EQUAL"))
 
 unfoldable pub read_spread : Plan UserCommand
 read_spread = do
-  line ← take_word (codes "SPREAD")
+  place ← take_word (codes "SPREAD")
   target ← read_cell
   take_sign (codes "=")
   value ← read_amount
   how ← read_spread_word
   take_sign (codes ";")
-  gives (record { line = line; body = bodies.Spread target value how })
+  gives (record { at = place; body = bodies.Spread target value how })
 
 unfoldable pub read_trace : Plan UserCommand
 read_trace = do
-  line ← take_word (codes "TRACE")
+  place ← take_word (codes "TRACE")
   target ← read_cell
   take_sign (codes ";")
-  gives (record { line = line; body = bodies.Trace target })
+  gives (record { at = place; body = bodies.Trace target })
 
 unfoldable pub read_alone : List ℕ → UserBody → Plan UserCommand
 read_alone called body = do
-  line ← take_word called
+  place ← take_word called
   take_sign (codes ";")
-  gives (record { line = line; body = body })
+  gives (record { at = place; body = body })
 
 -- whether a command of sandboxes comes
 abbrev pub is_sandbox_word : Lexeme → Bool

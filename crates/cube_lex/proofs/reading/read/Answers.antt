@@ -5,7 +5,7 @@ use Rattle.cube_lex.proofs.reading.read.Goals as goal
 use Rattle.cube_lex.proofs.reading.read.Goals.{in-Some+in_ok-push, in_default}
 
 pub returns-in-Err : goal.returns-in-Err
-returns-in-Err c = rw c.new.ensures
+returns-in-Err c = rw (c.new.ensures, c.offset.ensures c.args.text.now)
     (reading-stopped c.args.text.now c.parts.tokens.items c.parts.at c.parts.line c.parts.rest.now c.in-Err.fault c.parts.invariant c.in-Err.ensures c.requires)
 
 pub parts-preserved : goal.parts-preserved

@@ -4,8 +4,8 @@ use Rattle.cube_lex.proofs.text.counted.Goals as goal
 use Rattle.cube_lex.proofs.text.counted.Goals.{in-Some, in_default}
 
 pub returns-in-Err : goal.returns-in-Err
-returns-in-Err c =
-    counted-stopped c.args.text.now c.parts.tokens c.parts.at c.parts.line c.parts.rest.now c.in-Err.fault c.parts.invariant c.in-Err.ensures c.requires
+returns-in-Err c = rw (c.offset.ensures c.args.text.now)
+    (counted-stopped c.args.text.now c.parts.tokens c.parts.at c.parts.line c.parts.rest.now c.in-Err.fault c.parts.invariant c.in-Err.ensures c.requires)
 
 pub parts-preserved : goal.parts-preserved
 parts-preserved c = rw c.line_ends.ensures (elim c.match-front.branch [

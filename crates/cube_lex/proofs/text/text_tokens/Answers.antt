@@ -13,7 +13,7 @@ use Rattle.cube_lex.proofs.text.text_tokens.Goals as goal
 
 pub returns-then-text-gt-MAX_TEXT_BYTES : goal.returns-then-text-gt-MAX_TEXT_BYTES
 returns-then-text-gt-MAX_TEXT_BYTES c =
-    let found : IsReading c.args.text.now (record { lexemes = c.new.result; end_line = 1 + c.line_ends.result }) (Some (TooLong 1073741824)) =
+    let found : IsReading c.args.text.now (record { lexemes = c.new.result; end = record { offset = 1073741824; line = 1 + c.line_ends.result } }) (Some (TooLong 1073741824)) =
     rw (c.new.ensures, c.end.ensures)
     (reading-oversize c.args.text.now _ c.if-text-gt-MAX_TEXT_BYTES.true
     (ap (λ n. 1 + n) (c.line_ends.ensures ∙ ap (count_by is_line_end) c.split_at.ensures.front))) in
@@ -32,5 +32,5 @@ returns c =
     let ahead : IsAhead c.args.text.now c.mark_len.result 1 c.counted-counted.result.tokens c.counted-counted.ensures.0 =
     rw c.mark_len.ensures (∣ reading-ahead c.args.text.now _ _ c.counted-counted.ensures.0 _ small c.counted-counted.ensures.1 c.counted-counted.ensures.2 ∣₁) in
     let same : c.new-2.result ≡ c.counted-counted.ensures.0 = c.new-2.ensures ∙ c.new-place.ensures c.counted-counted.ensures.0 ahead in
-    let found : IsReading c.args.text.now (record { lexemes = c.new-2.result; end_line = c.counted-counted.result.end_line }) c.counted-counted.result.fault = rw same c.counted-counted.ensures.1 in
+    let found : IsReading c.args.text.now (record { lexemes = c.new-2.result; end = c.counted-counted.result.end }) c.counted-counted.result.fault = rw same c.counted-counted.ensures.1 in
     record { found = found; well_formed = well_formed c.args.text.now _ _ found; only = λ lexed fault is. reading-only c.args.text.now _ lexed _ fault found is }

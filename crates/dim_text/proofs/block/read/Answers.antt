@@ -22,9 +22,9 @@ returns-in-Ok c =
 pub returns-in-Err : goal.returns-in-Err
 returns-in-Err c =
     let same : c.new-cursor.result.tokens ≡ drop c.args.from c.args.tokens.now.lexemes = c.new-cursor.ensures.tokens ∙ c.left_from.ensures.tokens in
-    let placed = subst (λ x. Explains x c.end_line.result c.in-Err.stop c.fault_of.result) (c.left_from-in-Err.ensures.tokens ∙ sym same) c.fault_of.ensures in
-    let told = subst (λ n. Explains c.new-cursor.result.tokens n c.in-Err.stop c.fault_of.result) c.end_line.ensures placed in
-    fault_told (drop c.args.from c.args.tokens.now.lexemes) c.new-cursor.result.tokens c.block_at.new.cursor.tokens c.args.tokens.now.end_line c.in-Err.stop c.fault_of.result same c.in-Err.ensures told
+    let placed = subst (λ x. Explains x c.end.result c.in-Err.stop c.fault_of.result) (c.left_from-in-Err.ensures.tokens ∙ sym same) c.fault_of.ensures in
+    let told = subst (λ n. Explains c.new-cursor.result.tokens n c.in-Err.stop c.fault_of.result) c.end.ensures placed in
+    fault_told (drop c.args.from c.args.tokens.now.lexemes) c.new-cursor.result.tokens c.block_at.new.cursor.tokens c.args.tokens.now.end c.in-Err.stop c.fault_of.result same c.in-Err.ensures told
 
 pub block_at-requires : goal.block_at-requires
 block_at-requires c =

@@ -5,8 +5,8 @@ use Rattle.dim_weights.specs.declared.fault.WeightFault.TheVariants.{Coefficient
 use Rattle.model_bind.proofs.Elements.{answer-there}
 use Rattle.model_bind.proofs.coefficients.weights_in.Goals as goal
 
-pub line-requires : goal.line-requires
-line-requires c =
+pub position-requires : goal.position-requires
+position-requires c =
     let told = c.in-Err-CoefficientTooLarge in
     let is : told.field-0 ≡ CoefficientTooLarge told.element = cc (told.field-0-is) in
     let there = answer-there Weights c.dimension.result.now told.element told.field-0 is told.ensures.refused told.ensures.accepted in

@@ -8,5 +8,5 @@ use Rattle.model_bind.proofs.products.check_products.Given as goal
 abbrev pub invariant-loop-cube : goal.invariant-loop-cube
 invariant-loop-cube l = record {
   small : (cube : ℕ) → cube < l.cube → weight_product l.space cube ≤ 1000000000;
-  rest : first_refusal (product_refusal l.lines l.space) (drop l.cube (range_with_len 0 (length l.space.cubes))) ≡ products_refusal l.lines l.space;
+  rest : first_refusal (product_refusal l.places l.space) (drop l.cube (range_with_len 0 (length l.space.cubes))) ≡ products_refusal l.places l.space;
 }

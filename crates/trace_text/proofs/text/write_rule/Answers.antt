@@ -1,7 +1,7 @@
 use Rattle.std.proofs.Common.{◌∙◌, ◌++◌, ◌∷◌, ap, codes, decimal, if◌then◌else◌, slice_index_or, []}
 use Rattle.std.proofs.lemmas.Result.{on_ok_weaker}
 use Rattle.cube_space.specs.Cells.{cube_of, is_leaf_cell}
-use Rattle.trace_text.specs.TraceText.{one_line}
+use Rattle.cell_names.specs.CellNames.{one_line}
 use Rattle.trace_text.proofs.TextFacts.{four_pieces, where_ok}
 use Rattle.trace_text.proofs.text.write_rule.Goals as goal
 

@@ -1,0 +1,4 @@
+pub mod Files
+pub mod Late
+pub mod Unfed
+pub mod Inside

@@ -1,0 +1,11 @@
+pub mod Lists
+pub mod Sets
+pub mod Late
+pub mod Inside
+pub mod Places
+pub mod Narrowed
+pub mod Positions
+pub mod Counting
+pub mod Levels
+pub mod Parts
+pub mod Examples

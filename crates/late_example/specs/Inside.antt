@@ -1,0 +1,4 @@
+pub mod Counting
+pub mod Narrowing
+pub mod Shown
+pub mod Answers

@@ -1,0 +1,2 @@
+mod BareLines
+mod NoteLines

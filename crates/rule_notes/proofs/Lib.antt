@@ -1,0 +1,10 @@
+pub mod Ranges
+pub mod Sizes
+pub mod AreaFacts
+pub mod ReachFacts
+pub mod OwnFacts
+pub mod CellFacts
+pub mod ReadFacts
+pub mod CountedFacts
+pub mod NamelessFacts
+pub mod NotedFacts

@@ -1,0 +1,4 @@
+pub mod Reached
+pub mod Named
+pub mod Noted
+pub mod Inside
