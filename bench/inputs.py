@@ -622,6 +622,6 @@ SHAPES = [
     (clearing_load, 100000), (adding_load, 100000), (paired_load, 100000), (faulty_records, 100000), (faulty_variables, 100000), (large_plan, 800000), (plain_increments, 1000000), (equal_loads, 2000),
     (variables, 100000), (parameters, 100000), (joins, 40),
     (recurrence, 240), (stock, 20000), (wide_formula, 900), (ruled_total, 800000), (traced_total, 800000), (empty_axis, 90000), (many_views, 2000),
-    (noted_references, 16000), (noted_elements, 100000), (near_areas, 1000000), (late_reference, 99000),
+    (noted_references, 16000), (noted_elements, 100000), (near_areas, 1000000), (late_reference, 65000),
     (semicolons, 100000000), (semicolon_model, 2**30), (semicolon_rules, 100000000), (semicolon_script, 100000000), (load_files, 65000),
 ]
